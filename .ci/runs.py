@@ -5,6 +5,7 @@ import re
 import shutil
 import signal
 import subprocess
+import sys
 import threading
 from concurrent.futures import ThreadPoolExecutor
 from pathlib import Path
@@ -60,6 +61,21 @@ def build_below(top, names):
     wanted = {deeper for it in names for deeper in below[it]}
     lacking = [it for it in sorted(wanted, key=lambda it: len(below[it])) if not (top / "crates" / it / "out" / "rlib").is_dir()]
     return not any(subprocess.run(["rt", "lib"], cwd=top / "crates" / it, stdin=subprocess.DEVNULL).returncode for it in lacking)
+
+
+def note_built(top):
+    """Notes of each library that rt ci has left under a directory that it is made of the files there, so that rt check uses
+    it. Without the note, which rt ci does not leave, rt check proves the library again."""
+    kit = Path(os.path.realpath(shutil.which("rt"))).parent
+    if not (kit / "rtlib.py").is_file():
+        return
+    sys.path.insert(0, str(kit))
+    import rtlib
+
+    for crate in tried.libraries(top):
+        folder = top / "crates" / crate
+        if (folder / "out" / "rlib" / f"{crate}.rlib").is_dir():
+            (folder / "out" / "rlib" / "stamp").write_text(rtlib.Crate(str(folder), str(top), {}).stamp())
 
 
 def link(source, to):

@@ -118,6 +118,16 @@ def groups(edits):
     return group
 
 
+def count_checks(top, name):
+    """Returns how many checks try the edits of a crate if each is refused: one for each group, one for each other edit, and
+    one of the crate as it stands."""
+    left, count = [Edit(top / "crates" / name, it) for it in sorted(tried.edits_of(top, name))], 1
+    while left:
+        group = groups(left) or left[:1]
+        left, count = [it for it in left if it not in group], count + 1
+    return count
+
+
 class Crate:
     """The edits of a crate that are not tried yet, and the copy in which they are tried."""
 

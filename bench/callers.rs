@@ -2,6 +2,8 @@
 //!
 //! `calls C N`: so many threads, each of which adds N entries of 100 bytes to a ledger of its own; when all have, each takes
 //! its own. A payload is copied, and its digest made, before the lock is taken, as a bookie does it.
+//! `grouped C N`: the adds alone, in other ways: the lock is tried for a while before it is waited for, as a bookie does it;
+//! then with 4 and with 16 entries that are added while it is held once; then with a store for each thread and no lock.
 //! `reads C N`: so many threads, each of which reads entries of a log N times by what it was given before; then N times by
 //! what it asks the lock for each time.
 
@@ -9,8 +11,8 @@ mod digest;
 
 use digest::sha256;
 use std::collections::{BTreeMap, BTreeSet};
-use std::hint::black_box;
-use std::sync::{Arc, Mutex};
+use std::hint::{black_box, spin_loop};
+use std::sync::{Arc, Mutex, MutexGuard};
 use std::time::Instant;
 
 /// How many entries are read.
@@ -147,17 +149,62 @@ fn at_once<J: Send>(name: &str, jobs: Vec<J>, work: impl Fn(J) -> u64 + Sync) {
 fn calls(callers: u64, count: u64) {
     let store = Mutex::new(Store::default());
     let ledgers: Vec<u64> = (1000..1000 + callers).collect();
+    let add = |ledger, entry| {
+        Prepared::new(&payload(ledger, entry)).is_some_and(|it| store.lock().unwrap().add(it))
+    };
+    let all = |done: &dyn Fn(u64) -> bool| (0..count).map(|entry| u64::from(done(entry))).sum();
     at_once("adds", ledgers.clone(), |ledger| {
-        let add = |entry| {
-            Prepared::new(&payload(ledger, entry)).is_some_and(|it| store.lock().unwrap().add(it))
-        };
-        (0..count).map(|entry| u64::from(add(entry))).sum()
+        all(&|entry| add(ledger, entry))
     });
     at_once("takes", ledgers, |ledger| {
         let take = |entry| store.lock().unwrap().cached(&(ledger, entry));
-        (0..count)
-            .map(|entry| u64::from(black_box(take(entry)).is_some()))
-            .sum()
+        all(&|entry| black_box(take(entry)).is_some())
+    });
+}
+
+/// Takes the lock as a bookie does: it is tried for some microseconds before it is waited for.
+fn hold<T>(lock: &Mutex<T>) -> MutexGuard<'_, T> {
+    for number in 0..14u32 {
+        if let Ok(guard) = lock.try_lock() {
+            return guard;
+        }
+        for _ in 0..1u32 << number.min(8) {
+            spin_loop();
+        }
+    }
+    lock.lock().unwrap()
+}
+
+/// Adds the entries of a ledger, so many while the lock is held once.
+fn add_grouped(store: &Mutex<Store>, ledger: u64, count: u64, group: u64) -> u64 {
+    let (mut ready, mut added) = (Vec::with_capacity(group as usize), 0);
+    for first in (0..count).step_by(group as usize) {
+        let entries = first..count.min(first + group);
+        ready.extend(entries.filter_map(|entry| Prepared::new(&payload(ledger, entry))));
+        let mut store = hold(store);
+        added += ready
+            .drain(..)
+            .map(|it| u64::from(store.add(it)))
+            .sum::<u64>();
+    }
+    added
+}
+
+fn grouped(callers: u64, count: u64) {
+    let ledgers: Vec<u64> = (1000..1000 + callers).collect();
+    for (name, group) in [("tried", 1), ("fours", 4), ("sixteens", 16)] {
+        let store = Mutex::new(Store::default());
+        at_once(name, ledgers.clone(), |ledger| {
+            add_grouped(&store, ledger, count, group)
+        });
+    }
+    let stores = ledgers.iter().map(|_| Store::default()).collect();
+    at_once("apart", stores, |mut store: Store| {
+        let mut add = |entry| Prepared::new(&payload(1, entry)).is_some_and(|it| store.add(it));
+        let added = (0..count).map(|entry| u64::from(add(entry))).sum();
+        // Its memory is not given back while the time is taken.
+        std::mem::forget(store);
+        added
     });
 }
 
@@ -191,6 +238,7 @@ fn main() {
     let number = |word: &str| word.parse::<u64>().unwrap();
     match words.iter().map(String::as_str).collect::<Vec<_>>()[..] {
         ["calls", callers, count] => calls(number(callers), number(count)),
+        ["grouped", callers, count] => grouped(number(callers), number(count)),
         ["reads", callers, count] => reads(number(callers), number(count)),
         _ => std::process::exit(1),
     }

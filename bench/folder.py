@@ -1,4 +1,4 @@
-"""Measures a store over a folder, beside plain Rust and LevelDB that write and read the same entries: bookie-bench folder."""
+"""Measures a store over a folder, beside plain Rust, LevelDB, RocksDB and LMDB with the same entries: bookie-bench folder."""
 
 import collections
 import os
@@ -19,6 +19,12 @@ NO_LIMIT = 1_073_741_824
 # Publishes with and without the manifest of the logs: the entries of a flush, how many flushes.
 PUBLISHES = [(100, 200), (1_000, 100), (20_000, 10)]
 RUNS = 5
+# The other stores: the source of each program, a header and the library that it needs.
+OTHERS = {
+    "LevelDB": ("leveldb.cc", "leveldb/db.h", "-lleveldb"),
+    "RocksDB": ("rocksdb.cc", "rocksdb/db.h", "-lrocksdb"),
+    "LMDB": ("lmdb.cc", "lmdb.h", "-llmdb"),
+}
 # Runs of a filling whose time is mostly that of syncs, which vary.
 SYNC_RUNS = 20
 
@@ -32,25 +38,25 @@ def ratio(ours, beside):
 
 
 class Programs:
-    """The store's program, the plain one, and LevelDB's where the system has it; a missing one is None."""
+    """The store's program, which may be None, the plain one, and those of the other stores that the system has."""
 
-    def __init__(self, work, store):
+    def __init__(self, work, store, others=True):
         self.work = work
         self.store = [store, "folder"] if store else None
         self.plain = [work / "in-plain"]
         subprocess.run(["rustc", "--edition", "2021", "-O", "-o", self.plain[0], HERE / "folder.rs"], check=True)
-        self.leveldb = self.compile_leveldb()
+        compiled = {name: self.compile_other(name, *it) for name, it in OTHERS.items()} if others else {}
+        self.others = {name: program for name, program in compiled.items() if program}
 
-    def compile_leveldb(self):
-        source = "#include <leveldb/db.h>\n"
-        found = shutil.which("g++") and subprocess.run(
-            ["g++", "-E", "-x", "c++", "-"], input=source, text=True, capture_output=True
-        )
-        if not found or found.returncode:
+    def compile_other(self, name, source, header, library):
+        """Compiles the program of another store. Returns None, and says so, if the system lacks its library."""
+        asked = {"input": f"#include <{header}>\n", "text": True, "capture_output": True}
+        if not shutil.which("g++") or subprocess.run(["g++", "-E", "-x", "c++", "-"], **asked).returncode:
+            print(f"{name} is skipped: no {header}, or no g++")
             return None
-        program = self.work / "with-leveldb"
-        compile_it = ["g++", "-std=c++17", "-O2", "-o", program, HERE / "leveldb.cc", "-lleveldb"]
-        return None if subprocess.run(compile_it).returncode else [program]
+        program = self.work / f"in-{source}.program"
+        subprocess.run(["g++", "-std=c++17", "-O2", "-o", program, HERE / source, library], check=True)
+        return [program]
 
     def both(self):
         return [("store", self.store), ("plain", self.plain)]
@@ -61,9 +67,14 @@ class Programs:
             ("store", self.store, "fill", [NO_LIMIT]),
             ("recorded", self.store, "record", [NO_LIMIT]),
             ("plain", self.plain, "fill", [NO_LIMIT]),
-            ("leveldb", self.leveldb, "fill", []),
+            *((name, program, "fill", []) for name, program in self.others.items()),
         ]
         return [it for it in found if it[1]]
+
+    def opens(self, keys):
+        """Each that is there with the words behind the folder by which it opens what it filled, and deletes."""
+        others = ((name, program, [keys]) for name, program in self.others.items())
+        return [*((name, program, []) for name, program in self.both() if program), *others]
 
 
 def go_first():
@@ -125,20 +136,26 @@ def must_be_same(one, other):
 
 
 def fill_times(programs, folders, length, batch, publishes):
-    """The least time of each stage, for each program; and the counts, which are the same."""
+    """The least time of each stage, for each program."""
     least = collections.defaultdict(dict)
+
+    def note(name, stages):
+        for stage, (_, nanoseconds) in stages.items():
+            least[name][stage] = min(nanoseconds, least[name].get(stage, nanoseconds))
+
     for _ in range(RUNS):
         filled = {}
         for name, program, word, more in programs.fills():
             filled[name] = folders.fresh(name)
             stages, _ = run(program, word, filled[name], length, batch, publishes, *more)
-            for stage, (_, nanoseconds) in stages.items():
-                least[name][stage] = min(nanoseconds, least[name].get(stage, nanoseconds))
-            total = sum(stages[it][1] for it in ("add", "write", "publish") if it in stages)
-            least[name]["all"] = min(total, least[name].get("all", total))
+            note(name, stages)
+            spent = sum(stages[it][1] for it in ("add", "write", "publish") if it in stages)
+            note(name, {"all": (0, spent), "bare": (0, spent - stages.get("digest", (0, 0))[1])})
         if "store" in filled:
             must_be_same(filled["store"], filled["plain"])
             must_be_same(filled["store"], filled["recorded"])
+        for name, program, more in programs.opens(batch * publishes):
+            note(name, run(program, "open", filled[name], *more)[0])
     return least
 
 
@@ -155,35 +172,44 @@ def show_fill(programs, folders, length, batch, publishes):
     count = batch * publishes
     least = fill_times(programs, folders, length, batch, publishes)
     print(f"\n{count:,} entries of {length:,} bytes, {batch:,} a publish: microseconds an entry, least of {RUNS} runs")
-    row("", "store", "plain Rust", "ratio", "recorded", "to store", "LevelDB")
+    row("", "store", "plain Rust", "ratio", "recorded", "to store")
 
-    def show(title, plus, minus=(), leveldb=None):
+    def show(title, plus, minus=()):
         each = []
         for name in ("store", "plain", "recorded"):
             found = least.get(name)
             time = found and sum(found[it] for it in plus) - sum(found[it] for it in minus)
             each.append(time and time / count / 1000)
-        beside = least["leveldb"].get(leveldb) if leveldb else None
         ours, plain, recorded = ["-" if it is None else f"{it:.3f}" for it in each]
-        level = "-" if beside is None else f"{beside / count / 1000:.3f}"
-        row(title, ours, plain, ratio(*each[:2]), recorded, ratio(each[2], each[0]), level)
+        row(title, ours, plain, ratio(*each[:2]), recorded, ratio(each[2], each[0]))
 
     show("SHA-256 of a payload alone", ["digest"])
     show("add, its digest taken off", ["add"], ["digest"])
-    show("write: one append a record", ["write"])
+    show("write: appends gathered", ["write"])
     show("publish: sync, view, index", ["publish"])
-    show("added to published, digest taken off", ["add", "write", "publish"], ["digest"], "publish")
-    show("added to published", ["add", "write", "publish"])
-    show("read by a lease, files warm", ["fetch"], (), "fetch")
-    for title, stage, level in (("added to published", "all", "publish"), ("read", "fetch", "fetch")):
-        speeds = [
-            "-" if not least.get(name) else f"{count * 1e9 / least[name][it]:,.0f}"
-            for name, it in (("store", stage), ("plain", stage), ("recorded", stage), ("leveldb", level))
-        ]
-        row(f"{title}, entries a second", speeds[0], speeds[1], "", speeds[2], "", speeds[3])
+    show("added to published, digest taken off", ["bare"])
+    show("added to published", ["all"])
+    show("read by a lease, files warm", ["fetch"])
+    show_others(least, count)
     made = fill_syncs(programs, folders, length, batch // 10)
-    shown = ["-" if made.get(name) is None else f"{made[name]:g}" for name in ("store", "plain", "recorded", "leveldb")]
-    row("syncs a publish", shown[0], shown[1], "", shown[2], "", shown[3])
+    print("syncs a publish: " + ", ".join(f"{name} {'-' if it is None else f'{it:g}'}" for name, it in made.items()))
+
+
+def show_others(least, count):
+    """The same entries in other stores, which make no digest."""
+    names = ["store", "plain", *(it for it in OTHERS if it in least)]
+    print("\nthe same entries in other stores: microseconds an entry")
+    row("", *("plain Rust" if it == "plain" else it for it in names))
+    lines = [
+        ("added to published, without a digest", "bare", 1),
+        ("read, files warm", "fetch", 1),
+        ("scan, a record", "scan", 1),
+        ("opening, files warm, a record", "open", 1),
+        ("delete, a key", "delete", 10),
+    ]
+    for title, stage, part in lines:
+        found = [least[it].get(stage) for it in names]
+        row(title, *("-" if it is None else f"{it * part / count / 1000:.3f}" for it in found))
 
 
 def show_publishes(programs, folders):

@@ -284,15 +284,48 @@ impl Store {
         Ok(places.len() as u64)
     }
 
+    fn log(&self, number: u32) -> &Log {
+        match &self.writing {
+            Some(writing) if writing.number == number => &writing.log,
+            _ => &self.logs[&number],
+        }
+    }
+
+    /// Reads the heads of the records of the first log. Returns how many.
+    fn scan(&self) -> io::Result<u64> {
+        let log = self.log(0);
+        let mut scan = Scan::new(log.view.as_ref().unwrap(), log.length);
+        let mut count = 0;
+        while let Some(found) = scan.next()? {
+            black_box(found.key);
+            count += 1;
+        }
+        Ok(count)
+    }
+
+    /// Takes a ledger out of all but the files. Returns how many keys it had.
+    fn delete(&mut self, ledger: u64) -> u64 {
+        if !self.dead.insert(ledger) {
+            return 0;
+        }
+        let of_ledger = (ledger, 0)..(ledger + 1, 0);
+        let keys: Vec<Key> = self.index.range(of_ledger).map(|(key, _)| *key).collect();
+        for key in &keys {
+            let (log, _) = self.index.remove(key).unwrap();
+            self.logs.get_mut(&log).unwrap().named -= 1;
+        }
+        for log in self.logs.values_mut() {
+            log.sizes.remove(&ledger);
+        }
+        keys.len() as u64
+    }
+
     fn fetch(&self, key: &Key) -> io::Result<Vec<u8>> {
         if self.active.contains_key(key) || self.flushing.contains_key(key) {
             return Err(io::ErrorKind::NotFound.into());
         }
         let (number, at) = self.index[key];
-        let log = match &self.writing {
-            Some(writing) if writing.number == number => &writing.log,
-            _ => &self.logs[&number],
-        };
+        let log = self.log(number);
         let view = log.view.clone().unwrap();
         let from = u64::from(at) - 4;
         let mut frame = [0; FRAME as usize];
@@ -505,19 +538,29 @@ fn fill(folder: &Path, length: usize, batch: u64, publishes: u64, limit: u64) ->
         fetched += 1;
     }
     tell("fetch", fetched, begun);
+    let begun = Instant::now();
+    let scanned = store.scan()?;
+    tell("scan", scanned, begun);
     Ok(())
 }
 
 fn open(folder: &Path) -> io::Result<()> {
     let begun = Instant::now();
-    let store = Store::open(folder, 0, BTreeSet::new())?;
+    let mut store = Store::open(folder, 0, BTreeSet::new())?;
     tell("open", store.index.len() as u64, begun);
+    let begun = Instant::now();
+    let deleted = tenths().map(|ledger| store.delete(ledger)).sum();
+    tell("delete", deleted, begun);
     Ok(())
 }
 
+/// Every tenth ledger.
+fn tenths() -> impl Iterator<Item = u64> {
+    (0..LEDGERS / 10).map(|tenth| 10 * tenth)
+}
+
 fn compact(folder: &Path) -> io::Result<()> {
-    let dead = (0..LEDGERS / 10).map(|tenth| 10 * tenth).collect();
-    let mut store = Store::open(folder, 0, dead)?;
+    let mut store = Store::open(folder, 0, tenths().collect())?;
     let begun = Instant::now();
     let moved = store.compact()?;
     tell("compact", moved, begun);

@@ -416,6 +416,7 @@ fn run_entries(count: u64, rising: bool) {
         .collect();
     let payloads: Vec<Vec<u8>> = keys.iter().map(|key| payload_of(*key, 100)).collect();
     let mut store = Store::default();
+    stage_tell("payloads", payloads.len() as u64);
     stage_tell("digest", stage_digest(&payloads));
     stage_tell("add", stage_add(&mut store, &payloads));
     stage_tell("cached", stage_cached(&store, &keys));

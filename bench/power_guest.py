@@ -22,34 +22,47 @@ TOOLS = {
 }  # fmt: skip
 KERNEL = "linux-image-cloud-amd64"
 ALWAYS = ("virtio_pci", "virtio_blk")
-# A busy machine gives timers late.
-OPTIONS = "console=ttyS0 quiet panic=-1 oops=panic mitigations=off no_timer_check"
+# A busy machine gives timers late. Without random addresses QEMU translates a program's code once, not for each process. The
+# others spare time: pages of 2 MiB and new pages are not filled with zeros in advance, and no tests run at the boot.
+OPTIONS = (
+    "console=ttyS0 quiet panic=-1 oops=panic mitigations=off no_timer_check norandmaps nokaslr init_on_alloc=0 "
+    "transparent_hugepage=never cryptomgr.notests audit=0 apparmor=0 selinux=0"
+)
 # One processor, on which code runs as if there were more: else a request of a disk was lost, perhaps for want of barriers.
 PROCESSORS = ("-smp", "1,maxcpus=2")
+# Its memory, and the most that QEMU keeps of translated code, both in MiB.
+MEMORY = ("-m", "256", "-accel", "tcg,tb-size=64")
 # How long the guest may be silent, on a machine that is busy.
 SECONDS = 900
 
 
 class FileSystem:
-    """A kind of file system: its size and how it is made, the modules that it wants, and where its superblocks are."""
+    """A kind of file system: its size and how it is made, the modules that it wants, where its superblocks are, the lines of
+    the shell after which its kernel threads write nothing by themselves, and every 5 or 30 seconds, and what its manual says
+    to run on one that cannot be mounted."""
 
-    def __init__(self, name, mebibytes, make, modules, superblocks):
-        self.name, self.mebibytes, self.make, self.modules = name, mebibytes, make, modules
-        self.superblocks = superblocks
+    def __init__(self, name, mebibytes, make, modules, superblocks, threads, repair=None):
+        self.name, self.mebibytes, self.make, self.modules, self.repair = name, mebibytes, make, modules, repair
+        self.superblocks, (self.quiet, self.usual) = superblocks, threads
 
     def empty(self, path):
         """Makes an empty one in a file."""
         with open(path, "wb") as file:
             file.truncate(self.mebibytes << 20)
         subprocess.run([*self.make, str(path)], check=True, stdout=subprocess.DEVNULL)
+        # A file in memory needs no pages for zeros.
+        subprocess.run(["fallocate", "--dig-holes", str(path)], check=True)
         return Base(path, [place // BLOCK for place in self.superblocks])
 
 
+COMMITS = ("mount -o remount,commit=600 /dev/vda /mnt", ":")
+LOG_WORK = tuple(f"echo {pause} >/proc/sys/fs/xfs/xfssyncd_centisecs" for pause in (720000, 3000))
 FILE_SYSTEMS = {
     # Nothing is left to be initialized later, so that the kernel does not write by itself.
-    "ext4": FileSystem("ext4", 64, ["mkfs.ext4", "-q", "-E", "lazy_itable_init=0,lazy_journal_init=0"], (), (0,)),
-    "xfs": FileSystem("xfs", 320, ["mkfs.xfs", "-q"], ("xfs",), ()),
-    "btrfs": FileSystem("btrfs", 256, ["mkfs.btrfs", "-q"], ("btrfs",), (64 << 10, 64 << 20)),
+    "ext4": FileSystem("ext4", 64, ["mkfs.ext4", "-q", "-E", "lazy_itable_init=0,lazy_journal_init=0"], (), (0,), COMMITS,
+                       ["e2fsck", "-f", "-y"]),
+    "xfs": FileSystem("xfs", 320, ["mkfs.xfs", "-q"], ("xfs",), (), LOG_WORK),
+    "btrfs": FileSystem("btrfs", 256, ["mkfs.btrfs", "-q"], ("btrfs",), (64 << 10, 64 << 20), COMMITS),
 }
 
 
@@ -121,11 +134,10 @@ def modules_of(directory, wanted):
     return found
 
 
-def compile_library(room):
-    library = room / "power.so"
-    command = [path_of("gcc"), "-O2", "-shared", "-fPIC", "-o", library, HERE / "power.c"]
-    subprocess.run(command, check=True)
-    return library
+def compiled(room, source, *options):
+    made = room / source
+    subprocess.run([path_of("gcc"), "-O2", *options, "-o", made, HERE / f"{source}.c"], check=True)
+    return made
 
 
 def first_files(room, program, names):
@@ -139,8 +151,11 @@ def first_files(room, program, names):
             archive.add_file(library.lstrip("/"), library)
     archive.add_file("bin/busybox", path_of("busybox"))
     archive.add_file("program", program)
-    archive.add_file("power.so", compile_library(room))
-    archive.add_file("init", HERE / "power_init.sh")
+    archive.add_file("power.so", compiled(room, "power", "-shared", "-fPIC"))
+    archive.add_file("init", compiled(room, "power_guest", "-static"))
+    for name in ("run", "say", "send_logs"):
+        archive.add(f"bin/{name}", b"/init", 0o120777)
+    archive.add_file("jobs.sh", HERE / "power_jobs.sh", 0o100644)
     archive.add("modules/list", "".join(f"{Path(file).name}\n" for file in files).encode(), 0o100644)
     archive.save(room / "first.cpio")
     return room / "first.cpio"
@@ -177,7 +192,7 @@ class Guest:
             disks += ["-device", f"virtio-blk-pci,drive={name},discard=off,write-zeroes=off"]
         self.machine = subprocess.Popen(
             [
-                path_of("qemu-system-x86_64"), "-M", "pc", "-accel", "tcg", *PROCESSORS, "-m", "768", "-nodefaults", "-no-reboot",
+                path_of("qemu-system-x86_64"), "-M", "pc", *PROCESSORS, *MEMORY, "-nodefaults", "-no-reboot",
                 "-display", "none", "-serial", f"file:{self.console}", "-kernel", kernel()[0], "-initrd", str(first),
                 "-append", OPTIONS, *disks,
             ],

@@ -1,5 +1,6 @@
 """What a power loss leaves on a disk: images made of recorded writes and flushes, for bookie-power."""
 
+import hashlib
 import os
 
 from power_nbd import SECTOR, Flush, Message, Write
@@ -48,6 +49,13 @@ class Image:
                 block[start : start + len(piece)] = piece
                 piece = bytes(block)
             self.blocks[number] = piece
+
+    def digest(self):
+        """The same for images of the same bytes, as a rule: each block that was written counts."""
+        found = hashlib.blake2b(digest_size=16)
+        for number, block in sorted(self.blocks.items()):
+            found.update(number.to_bytes(8, "big") + block)
+        return found.digest()
 
     def save(self, path):
         """Writes it as a file, with holes where the file system has zeros."""

@@ -45,7 +45,7 @@ class Looker:
         self.seen = {}
 
     def look(self, tar, promise):
-        promised = [sorted(it) for it in (promise.must.items(), promise.may, promise.dead, promise.ended)]
+        promised = [sorted(it) for it in (promise.must.items(), promise.may, promise.dead, promise.ended, promise.gone)]
         digest = hashlib.sha256(repr(promised).encode())
         for name, data in sorted(files_of(tar).items()):
             digest.update(repr((name, len(data))).encode() + data)
@@ -60,7 +60,7 @@ class Look:
     """A look at one directory."""
 
     def __init__(self, program, folder, promise):
-        self.program, self.folder, self.ended = program, folder, promise.ended
+        self.program, self.folder, self.ended, self.gone = program, folder, promise.ended, promise.gone
         self.looked = fault_runs.Looked(promise.must, promise.may, promise.dead)
 
     def run(self, tar, checks_first):
@@ -80,7 +80,10 @@ class Look:
         return finding
 
     def lay(self, tar):
-        for name, data in files_of(tar).items():
+        """Makes the directory. A log whose removal was answered is not in it."""
+        files = files_of(tar)
+        self.looked.lost += [f"the removal of log {log}" for log in sorted(self.gone) if f"{log:x}.log" in files]
+        for name, data in files.items():
             self.folder.mkdir(parents=True, exist_ok=True)
             if name:
                 (self.folder / name).write_bytes(data)

@@ -13,6 +13,7 @@ UNRECORDED = ["--no-manifest"]
 MARKER, WORD, NO_MARKER = 900, "marker", 1 << 40
 LIMITS = ("2048", "4000", "9000", "30000")
 SIZES = (0, 1, 20, 100, 300, 700, 1500, 5000)
+COMPACTION = ("major", "copy 2", "copy 1000", "end", "switch 1", "switch 1000", "finish")
 # Logs that a script tries to retire or to remove: more than there are, as a rule.
 LOGS = range(64)
 
@@ -100,6 +101,9 @@ class Story:
                 process.steps.append("roll")
             if self.chance.random() < 0.2:
                 process.steps += [f"retire {log}" for log in LOGS] + removals()
+        if self.chance.random() < 0.4:
+            # No sync of a file follows these removals.
+            process.steps += [*COMPACTION, *(f"retire {log}" for log in LOGS), *removals()]
         self.dead += deleted(process.ended())
         return [process]
 
@@ -180,8 +184,7 @@ class Story:
 
     def perhaps_compact(self, process):
         if not self.compaction and self.chance.random() < 0.15:
-            steps = ("major", "copy 2", "copy 1000", "end", "switch 1", "switch 1000", "finish")
-            self.compaction = [*([step] for step in steps), removals()]
+            self.compaction = [*([step] for step in COMPACTION), removals()]
         if self.compaction and self.chance.random() < 0.6:
             process.steps += self.compaction.pop(0)
 
@@ -209,19 +212,32 @@ def found_by(look, output):
     return found
 
 
-class Promise:
-    """What must be found after a power loss, what may be, the ledgers that are named as deleted, and the deletions and fences
-    that were answered, which must be there too."""
+def removed_by(process, output):
+    """Returns the logs whose removal a run has answered; one that was killed has answered nothing."""
+    answers = output.rpartition("--\n")[0].splitlines()
+    return {
+        int(step.removeprefix("remove "))
+        for step, answer in zip(process.steps, answers)
+        if step.startswith("remove ") and answer == "removed"
+    }
 
-    def __init__(self, must=(), may=(), dead=(), ended=()):
+
+class Promise:
+    """What must be found after a power loss, what may be, the ledgers that are named as deleted, the deletions and fences
+    that were answered, which must be there too, and the logs whose removal was answered, which must not."""
+
+    def __init__(self, must=(), may=(), dead=(), ended=(), gone=()):
         self.must, self.may, self.dead, self.ended = dict(must), dict(may), set(dead), set(ended)
+        self.gone = set(gone)
 
     def copy(self):
-        return Promise(self.must, self.may, self.dead, self.ended)
+        return Promise(**vars(self))
 
     def add(self, other):
         for mine, its in zip(vars(self).values(), vars(other).values()):
             mine.update(its)
+        # A later run may give the id of a removed log to a new one.
+        self.gone = set(other.gone)
 
 
 class Timeline:
@@ -239,9 +255,13 @@ class Timeline:
                 process = self.processes[int(event.words[1])] if event.words[0] != "marker" else process
                 follows = messages[place + 1][1] if place + 1 < len(messages) else None
                 added = self.added(process, event, follows)
-                if not added.must.keys() <= self.at(index).must.keys():
+                if added.gone or not added.must.keys() <= self.at(index).must.keys():
                     (self.published if event.words[0] == "marker" else self.found).append(index + 1)
                 self.points.append((index, added))
+
+    def removals(self):
+        """How many removals of logs were answered."""
+        return sum(len(added.gone) for _, added in self.points)
 
     def at(self, cut):
         """What is promised when the power is cut in front of an event."""
@@ -260,7 +280,8 @@ class Timeline:
             output = event.data.decode(errors="replace")
             must = found_by(process, output) if process.kind == "look" else {}
             is_well = process.is_recorded() and not process.trouble(int(event.words[2]), output)
-            return Promise(must, {}, deleted(process.ended()), process.ended() if is_well else ())
+            ended = process.ended() if is_well else ()
+            return Promise(must, {}, deleted(process.ended()), ended, removed_by(process, output))
         if follows and follows.words[0] == "marker":
             until = int(follows.words[1])
         dead = deleted(process.ended(until))

@@ -1,19 +1,21 @@
 """The cuts of bookie-power: runs in the guest, images of their recordings, and what is found in them."""
 
 import collections
+import json
 import random
+import subprocess
 import sys
 import time
 from concurrent.futures import ThreadPoolExecutor
 
 import fault_runs
-from power_guest import FILE_SYSTEMS, Dead, Guest, Silent, first_files
-from power_images import VARIANTS, Image
+from power_guest import FILE_SYSTEMS, Dead, Guest, Silent, first_files, path_of
+from power_images import VARIANTS, Base, Image
 from power_look import Finding, Looker
 from power_story import FOLDER, Process, Promise, Story, Timeline, files_of, found_by, troubles
 
-# Images of one recording, processes in it, the share of images that the guest opens itself, and cuts of each of these.
-IMAGES, PROCESSES, RECOVERED, AGAIN = 100, 9, 1 / 12, 4
+# Images of one recording, the share of images that the guest opens itself, and cuts of each of these.
+IMAGES, RECOVERED, AGAIN = 80, 1 / 12, 4
 # Directories that are looked at while the guest mounts the next images.
 LOOKS = 3
 
@@ -31,7 +33,8 @@ class Counts:
 
     def __init__(self, keep):
         self.keep, self.kept = keep, 0
-        self.cuts = self.lost = self.refused = self.ways_on = self.torn = self.recovered = 0
+        self.cuts = self.lost = self.refused = self.ways_on = self.torn = self.recovered = self.runs = 0
+        self.images = set()
         self.texts = collections.Counter()
 
     def add(self, name, finding, image, tar, promise):
@@ -42,6 +45,7 @@ class Counts:
         self.ways_on += bool(finding.ways_on)
         self.torn += name.endswith(" torn")
         self.recovered += RECOVERY in name
+        self.images.add((name.split()[0], image.digest()))
         for sort, whys in (("lost", finding.lost), ("refused", finding.refused)):
             for why in whys[:1]:
                 self.texts[sort, why] += 1
@@ -59,6 +63,9 @@ class Counts:
             if file:
                 (at / "logs" / file).write_bytes(data)
         whys = [f"lost: {why}" for why in finding.lost] + [f"refused: {why}" for why in finding.refused]
+        promised = {kind: [[*key, data.decode("latin-1")] for key, data in entries.items()] for kind, entries in
+                    (("must", promise.must), ("may", promise.may))}  # fmt: skip
+        (at / "promise.json").write_text(json.dumps({**promised, "removed": sorted(promise.gone)}))
         dead = " ".join(map(str, sorted(promise.dead)))
         ended = " ".join(f"{step} {ledger}" for step, ledger in sorted(promise.ended))
         (at / "finding.txt").write_text("\n".join([name, *whys, f"deleted ledgers: {dead}", f"answered: {ended}", ""]))
@@ -66,6 +73,7 @@ class Counts:
     def report(self):
         if self.kept:
             print(f"images with a finding are in {self.keep}")
+        print(f"{self.runs} recorded runs, {len(self.images)} different images")
         print(f"{self.ways_on} opened only after a way on, {self.torn} torn, {self.recovered} cut in a recovery")
         print(f"{self.cuts} cuts, {self.lost} lost, {self.refused} refused")
         return 1 if self.lost or self.refused else 0
@@ -127,15 +135,15 @@ class Trial:
 
     def prepare(self):
         """In one of two runs the kernel writes nothing before it is asked to, however slow the machine is."""
-        pause = self.chance.choice((0, 500))
+        pause, threads = self.chance.choice(((0, self.kind.quiet), (500, self.kind.usual)))
         fill = f"fill {self.asked.full}\n" if self.asked.full else ""
-        return f"echo {pause} >/proc/sys/vm/dirty_writeback_centisecs\n{fill}"
+        return f"echo {pause} >/proc/sys/vm/dirty_writeback_centisecs\n{threads}\n{fill}"
 
     # ---- runs and cuts
 
     def one_run(self):
         """Records a run of several processes, and cuts it at several events."""
-        story = Story(self.chance, self.asked.no_manifest, PROCESSES, self.asked.load)
+        story = Story(self.chance, self.asked.no_manifest, self.asked.processes, self.asked.load)
         began, start = time.monotonic(), Image(self.base)
         try:
             messages, recording = self.job(self.with_syncs(f"{self.mount()}\n{self.prepare()}{story.job()}"), start)
@@ -144,11 +152,13 @@ class Trial:
         for trouble in () if self.asked.full else troubles(story.processes, messages):
             raise Stopped(f"in the machine: {trouble}")
         self.runs += 1
+        self.counts.runs += 1
         timeline = Timeline(story.processes, recording.events, Promise())
         faults, took = sum(message.data.count(b"fault ") for message in messages), time.monotonic() - began
         print(
             f"{self.kind.name}, run {self.runs}: {recording.requests()} requests, {len(story.entries)} entries, "
-            f"{len(timeline.at(len(recording.events)).must)} promised, {faults} faults, {took:.0f} s",
+            f"{len(timeline.at(len(recording.events)).must)} promised, {timeline.removals()} removals, {faults} faults, "
+            f"{took:.0f} s",
             file=sys.stderr, flush=True,
         )  # fmt: skip
         for _ in range(IMAGES):
@@ -169,20 +179,42 @@ class Trial:
             self.look(where, image, promise)
 
     def look(self, name, image, promise):
+        tar, why = self.logs(image)
+        if not why:
+            self.looks.append((name, self.pool.submit(self.looker.look, tar, promise), image, tar, promise))
+            return self.collect(4 * LOOKS)
         finding = Finding()
-        job = f"if {self.mount()}; then send_logs tar; else send /tmp/why unmounted; fi\n"
-        try:
-            messages, _ = self.job(job, image)
-            if messages and messages[-1].words == ["tar"]:
-                tar = messages[-1].data
-                self.looks.append((name, self.pool.submit(self.looker.look, tar, promise), image, tar, promise))
-                return self.collect(4 * LOOKS)
-            why = messages[-1].data.decode(errors="replace").strip() if messages else "no answer"
-            finding.refused.append(f"not mounted: {why}")
-        except Dead as why:
-            finding.refused.append(f"the machine ended: {why}")
-        self.counts.add(name, finding, image, None, promise)
+        finding.refused.append(why)
+        if self.kind.repair and why.startswith("unmounted"):
+            tar = self.repair(finding, image, promise)
+        self.counts.add(name, finding, image, tar, promise)
         return None
+
+    def logs(self, image):
+        """Lets the guest mount an image. Returns the directory as an archive, and why there is none."""
+        try:
+            messages, _ = self.job(f"look {self.kind.name} {self.asked.mount}", image)
+        except Dead as why:
+            return None, f"the machine ended: {why}"
+        if not messages:
+            return None, "no answer"
+        told = messages[-1]
+        if told.words == ["tar"]:
+            return told.data, None
+        return None, f"{' '.join(told.words)}: {told.data.decode(errors='replace')}"
+
+    def repair(self, finding, image, promise):
+        """Repairs an image that cannot be mounted by the file system's own program, and looks what is lost. It stays refused."""
+        path = self.room / "repaired.raw"
+        image.save(path)
+        subprocess.run([path_of(self.kind.repair[0]), *self.kind.repair[1:], path], capture_output=True)
+        tar, why = self.logs(Image(Base(path)))
+        path.unlink()
+        looked = Finding() if why else self.looker.look(tar, promise)
+        finding.lost += looked.lost
+        found = why or [*looked.lost, *looked.refused, "nothing is lost"][0]
+        finding.refused[0] += f"; after {' '.join(self.kind.repair)}: {found}"
+        return tar
 
     def recover(self, name, image, promise):
         """Lets the guest open and compact the directory, and cuts it off there too."""
@@ -194,6 +226,8 @@ class Trial:
         except Dead as why:
             finding.refused.append(f"the machine ended: {why}")
             return self.counts.add(name, finding, image, None, promise)
+        if not messages:
+            return self.look(name, image, promise)
         ends = {message.words[1]: message for message in messages if message.words[0] == "end"}
         finding.refused += troubles([look, compaction], ends.values())
         finding.ways_on = sum(message.words[0] == "begin" for message in messages) - 2
@@ -201,7 +235,7 @@ class Trial:
         if not finding.refused and len(ends) == 2:
             looked.compare(found_by(look, ends["0"].data.decode(errors="replace")), "opened in the machine")
         elif not finding.refused:
-            finding.refused.append("not mounted")
+            finding.refused.append("the recovery did not end")
         finding.lost = looked.lost
         self.counts.add(name, finding, image, None, promise)
         timeline = Timeline([look, compaction], recording.events, promise)

@@ -2,7 +2,8 @@
 
 The session publishes entries, deletes and fences ledgers and stores master keys, and goes on after each refusal. Later
 sessions, on the files as they are and on what a power loss would leave, have to find what was answered: entries that were
-published after a refused deletion too, and no entry of a ledger whose deletion was answered.
+published after a refused deletion too, and no entry of a ledger whose deletion was answered. After a `close` that was refused
+the exit status has to be 1.
 """
 
 import os
@@ -41,6 +42,8 @@ class Known:
         self.dead, self.fenced, self.keys, self.accepted = set(), set(), {}, {}
         # Ledgers of which a deletion was refused or not answered.
         self.doubtful = set()
+        # What the server said that is not so.
+        self.wrong = []
 
     def added(self, key, content, answer):
         if answer == NO_REPLY:
@@ -62,6 +65,7 @@ class Known:
 
     def differences(self, session):
         """Yields how a later session differs from what is known."""
+        yield from self.wrong
         entries = {**self.may, **self.accepted, **self.must}
         for (ledger, entry), content in sorted(entries.items()):
             found = content_of(session, ledger, entry)
@@ -184,7 +188,10 @@ class Server:
         run_steps(session, known)
         try:
             session.close()
-        except (bookie.Refused, bookie.Ended):
+        except bookie.Refused:
+            if session.process.returncode != 1:
+                known.wrong.append(f"the exit status after a refused close is {session.process.returncode}")
+        except bookie.Ended:
             session.kill()
         return known, self.room.trace.read_text().splitlines()
 

@@ -2,7 +2,7 @@
 
 Each session begins with requests that are answered. Then a frame is cut, too long, too short, of an unknown call, of wrong
 fields, of an id that does not rise, a second hello, or bytes by chance. The server has to answer what came before, to end by the
-fault that bindings/protocol.md names, and to keep what it answered.
+fault that bindings/protocol.md names, and to keep what it answered. Every other session compacts in the background.
 """
 
 import random
@@ -113,7 +113,8 @@ class Hostile:
             wanted.append((last, "accepted"))
             self.kept[number, entry] = content
         bad, end = tail(self.chance, last + self.chance.randrange(1, 9), last)
-        run = subprocess.run([self.path, str(folder)], input=data + bad, capture_output=True, timeout=SECONDS)
+        compacts = ["--compact", "20,80"] if number % 2 == 0 else []
+        run = subprocess.run([self.path, str(folder), *compacts], input=data + bad, capture_output=True, timeout=SECONDS)
         self.judge(tail, run, wanted, end)
 
     def judge(self, tail, run, wanted, end):

@@ -1,7 +1,7 @@
 """Kills bk_serve at random moments of a session: for bookie-kills --serve.
 
 A client sends adds ahead, flushes, deletes, fences and stores master keys, until the server is killed. The next session has to
-find what was answered; then it goes on in the same directory.
+find what was answered; then it goes on in the same directory. Every other session compacts in the background.
 """
 
 import random
@@ -80,7 +80,8 @@ class Kills:
         self.all.dead |= one.dead
 
     def one(self, number):
-        session = bookie.Bookie([self.path, str(self.folder)])
+        compacts = ["--compact", "20,80"] if number % 2 == 0 else []
+        session = bookie.Bookie([self.path, str(self.folder), *compacts])
         self.look(session)
         self.known = Known({})
         timer = threading.Timer(self.chance.uniform(0, LONGEST), session.process.kill)

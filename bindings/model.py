@@ -44,7 +44,7 @@ class Model:
     def __init__(self, directory):
         os.makedirs(directory, exist_ok=True)
         self.kept, self.fenced, self.dead, self.attributes = {}, set(), set(), {}
-        self.trail, self.unpublished, self.log = [], {}, 0
+        self.trail, self.unpublished, self.log, self.front = [], {}, 0, 0
         self.file = open(os.path.join(directory, "model.log"), "a+b")
         fcntl.flock(self.file, fcntl.LOCK_EX | fcntl.LOCK_NB)
         self.file.seek(0)
@@ -205,7 +205,7 @@ class Model:
     def flush(self):
         published = len(self.unpublished)
         self.write(*((b"e", body) for body in self.unpublished.values()))
-        self.unpublished = {}
+        self.unpublished, self.front = {}, len(self.trail)
         return 47, (published,), b""
 
     def checkpoint(self):
@@ -218,7 +218,9 @@ class Model:
     def stats(self):
         live = sum(len(body) for held in self.kept.values() for body in held.values())
         cached = sum(map(len, self.unpublished.values()))
-        return 50, (1, os.fstat(self.file.fileno()).st_size, live, cached, 0, 0, 1, len(self.trail)), b""
+        indexed = sum(map(len, self.kept.values())) - len(self.unpublished)
+        size = os.fstat(self.file.fileno()).st_size
+        return 50, (1, size, live - cached, cached, indexed, self.front, 1, len(self.trail)), b""
 
     def seal(self):
         published = self.flush()[1][0]

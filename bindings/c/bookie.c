@@ -1,8 +1,9 @@
 /* Client of `bk_serve`: see bookie.h. One thread reads replies and puts them into the table of requests. */
-#define _POSIX_C_SOURCE 200809L
+#define _GNU_SOURCE /* F_SETPIPE_SZ */
 #include "bookie.h"
 #include <errno.h>
 #include <fcntl.h>
+#include <poll.h>
 #include <pthread.h>
 #include <signal.h>
 #include <spawn.h>
@@ -13,6 +14,9 @@
 
 #define LARGEST 5000064u
 #define BUCKETS 4096u
+#define GATHERED 8192u    /* so many bytes of requests are written together */
+#define TOGETHER 64u      /* so many replies are put into the table together */
+#define PIPE (1 << 20)    /* wanted size of the pipes; the system's own is a sixteenth */
 #define MAGIC 0x424b53455256450aull
 #define VERSION 1u
 
@@ -127,17 +131,29 @@ typedef struct request {
     struct request *next;
 } request;
 
+/* Bytes of replies that were read, from `at` to `end`. */
+typedef struct {
+    int file;
+    size_t at, end;
+    uint8_t bytes[65536];
+} input;
+
 struct bookie {
     pid_t child;
-    int in, out; /* replies, requests */
+    int out;
+    input in;
     pthread_t reader;
-    pthread_mutex_t writing; /* held while a request gets its id and is written; taken before `lock` */
-    pthread_mutex_t lock;    /* nobody holds it while a write blocks: so replies are always read */
+    pthread_mutex_t writing; /* of `held` and `held_count`; held while a request gets its id and is written; taken before `lock` */
+    pthread_mutex_t lock;    /* of the rest; nobody holds it while a write blocks: so replies are always read */
     pthread_cond_t changed;
     request *table[BUCKETS];
     uint64_t last, limits[4];
+    uint64_t written, answered; /* requests */
     size_t unanswered;
     int is_over, is_ended, status;
+    uint64_t held_count; /* requests that are held back, see bookie_send */
+    size_t held_bytes;
+    uint8_t held[2 * GATHERED];
 };
 
 /* ---- bytes */
@@ -152,32 +168,39 @@ static uint64_t get(const uint8_t *in, size_t bytes) {
     return number;
 }
 
-static int write_all(int file, const uint8_t *bytes, size_t length) {
+/* Takes bytes of the replies, which it waits for. */
+static int take(input *in, uint8_t *out, size_t length) {
     while (length > 0) {
-        ssize_t n = write(file, bytes, length);
-        if (n < 0 && errno == EINTR) continue;
-        if (n <= 0) return -1;
-        bytes += n;
-        length -= (size_t)n;
+        if (in->at == in->end) {
+            int is_large = length >= sizeof in->bytes;
+            ssize_t n = is_large ? read(in->file, out, length) : read(in->file, in->bytes, sizeof in->bytes);
+            if (n < 0 && errno == EINTR) continue;
+            if (n <= 0) return -1;
+            in->at = 0;
+            in->end = is_large ? 0 : (size_t)n;
+            out += is_large ? n : 0;
+            length -= is_large ? (size_t)n : 0;
+            continue;
+        }
+        size_t n = in->end - in->at < length ? in->end - in->at : length;
+        memcpy(out, in->bytes + in->at, n);
+        in->at += n;
+        out += n;
+        length -= n;
     }
     return 0;
 }
 
-static int read_all(int file, uint8_t *bytes, size_t length) {
-    while (length > 0) {
-        ssize_t n = read(file, bytes, length);
-        if (n < 0 && errno == EINTR) continue;
-        if (n <= 0) return -1;
-        bytes += n;
-        length -= (size_t)n;
-    }
-    return 0;
+/* Whether the next reply is there as a whole. */
+static int has_reply(const input *in) {
+    size_t left = in->end - in->at;
+    return left >= 4 && get(in->bytes + in->at, 4) <= left - 4;
 }
 
 /* Reads the next reply and its id. Returns -1 at the end, and if the bytes are no reply. */
-static int read_reply(int file, uint64_t *id, bookie_reply *reply) {
+static int read_reply(input *in, uint64_t *id, bookie_reply *reply) {
     uint8_t head[13], numbers[64];
-    if (read_all(file, head, sizeof head) < 0) return -1;
+    if (take(in, head, sizeof head) < 0) return -1;
     size_t length = (size_t)get(head, 4);
     const kind *k = FIND(STATUSES, head[12]);
     if (length < 9 || length > LARGEST || k == NULL) return -1;
@@ -186,11 +209,11 @@ static int read_reply(int file, uint64_t *id, bookie_reply *reply) {
     *id = get(head + 4, 8);
     reply->status = k->code;
     reply->length = length - 9 - 8 * k->numbers;
-    if ((k->code == BOOKIE_PAGE && reply->length % 8 != 0) || read_all(file, numbers, 8 * k->numbers) < 0) return -1;
+    if ((k->code == BOOKIE_PAGE && reply->length % 8 != 0) || take(in, numbers, 8 * k->numbers) < 0) return -1;
     for (size_t i = 0; i < k->numbers; i++) reply->numbers[i] = get(numbers + 8 * i, 8);
     if (reply->length == 0) return 0;
     reply->bytes = malloc(reply->length);
-    if (reply->bytes == NULL || read_all(file, reply->bytes, reply->length) < 0) {
+    if (reply->bytes == NULL || take(in, reply->bytes, reply->length) < 0) {
         bookie_reply_free(reply);
         return -1;
     }
@@ -205,26 +228,83 @@ static request **at(bookie *b, uint64_t id) {
     return place;
 }
 
+/* Puts replies into the table. Returns how many, or fewer if one is of no request or ends the session. */
+static size_t deliver(bookie *b, const uint64_t *ids, const bookie_reply *replies, size_t count) {
+    size_t done = 0;
+    pthread_mutex_lock(&b->lock);
+    for (; done < count; done++) {
+        request *r = *at(b, ids[done]);
+        if (replies[done].status >= 96 || r == NULL || r->is_answered) break;
+        r->reply = replies[done];
+        r->is_answered = 1;
+    }
+    b->unanswered -= done;
+    b->answered += done;
+    if (done < count && replies[done].status >= 96) b->status = replies[done].status;
+    pthread_cond_broadcast(&b->changed);
+    pthread_mutex_unlock(&b->lock);
+    return done;
+}
+
+/* Writes bytes. Without `waits`, only those that the pipe has room for. Returns how many were written; a write that fails counts,
+ * since the reader then meets the end of the replies. */
+static size_t write_bytes(int file, const uint8_t *bytes, size_t length, int waits) {
+    size_t at = 0;
+    while (at < length) {
+        ssize_t n = write(file, bytes + at, length - at);
+        if (n > 0) at += (size_t)n;
+        else if (n < 0 && errno == EINTR) continue;
+        else if (n < 0 && errno != EAGAIN) return length;
+        else if (!waits) break;
+        else poll(&(struct pollfd){file, POLLOUT, 0}, 1, -1);
+    }
+    return at;
+}
+
+/* Writes the requests that are held back. The caller has `writing`. */
+static void write_held(bookie *b, int waits) {
+    pthread_mutex_lock(&b->lock);
+    b->written += b->held_count;
+    pthread_mutex_unlock(&b->lock);
+    b->held_count = 0;
+    size_t n = write_bytes(b->out, b->held, b->held_bytes, waits);
+    b->held_bytes -= n;
+    memmove(b->held, b->held + n, b->held_bytes);
+}
+
+static void flush_held(bookie *b) {
+    pthread_mutex_lock(&b->writing);
+    write_held(b, 1);
+    pthread_mutex_unlock(&b->writing);
+}
+
+/* Holds back bytes of a request, or writes them if they are too many. The caller has `writing`. */
+static void hold(bookie *b, const void *bytes, size_t length) {
+    if (length > sizeof b->held - b->held_bytes) write_held(b, 1);
+    if (length > sizeof b->held) {
+        write_bytes(b->out, bytes, length, 1);
+    } else if (length > 0) {
+        memcpy(b->held + b->held_bytes, bytes, length);
+        b->held_bytes += length;
+    }
+}
+
 /* Reads replies to the end of the session. */
 static void *read_replies(void *handle) {
     bookie *b = handle;
-    uint64_t id;
-    bookie_reply reply;
-    while (read_reply(b->in, &id, &reply) == 0) {
-        pthread_mutex_lock(&b->lock);
-        request *r = *at(b, id);
-        int is_known = reply.status < 96 && r != NULL && !r->is_answered;
-        if (is_known) {
-            r->reply = reply;
-            r->is_answered = 1;
-            b->unanswered -= 1;
-            pthread_cond_broadcast(&b->changed);
-        }
-        pthread_mutex_unlock(&b->lock);
-        if (!is_known) {
-            if (reply.status >= 96) b->status = reply.status;
-            bookie_reply_free(&reply);
-            break;
+    uint64_t ids[TOGETHER];
+    bookie_reply replies[TOGETHER];
+    for (int is_last = 0; !is_last;) {
+        size_t count = 0;
+        do is_last = read_reply(&b->in, &ids[count], &replies[count]) < 0;
+        while (!is_last && ++count < TOGETHER && has_reply(&b->in));
+        size_t done = deliver(b, ids, replies, count);
+        is_last |= done < count;
+        for (size_t i = done; i < count; i++) bookie_reply_free(&replies[i]);
+        /* This thread waits for nobody who writes: whoever has `writing` looks for himself, in bookie_send. */
+        if (pthread_mutex_trylock(&b->writing) == 0) {
+            write_held(b, 0);
+            pthread_mutex_unlock(&b->writing);
         }
     }
     pthread_mutex_lock(&b->lock);
@@ -234,36 +314,46 @@ static void *read_replies(void *handle) {
     return NULL;
 }
 
-uint64_t bookie_send(bookie *b, int call, const uint64_t *numbers, const void *bytes, size_t length) {
-    const kind *k = FIND(CALLS, call);
-    if (k == NULL || length < k->least || length > k->most) return 0;
-    size_t size = 13 + 8 * k->numbers + length;
-    uint8_t *frame = malloc(size);
-    request *r = calloc(1, sizeof *r);
-    if (frame == NULL || r == NULL) {
-        free(frame);
-        free(r);
-        return 0;
-    }
-    put(frame, size - 4, 4);
-    frame[12] = (uint8_t)call;
-    for (size_t i = 0; i < k->numbers; i++) put(frame + 13 + 8 * i, numbers[i], 8);
-    if (length > 0) memcpy(frame + 13 + 8 * k->numbers, bytes, length);
+/* Waits until the server takes a further request. What is held back has to be answered too. */
+static void wait_for_room(bookie *b) {
     pthread_mutex_lock(&b->lock);
+    if (!b->is_over && b->unanswered >= b->limits[2]) {
+        pthread_mutex_unlock(&b->lock);
+        flush_held(b);
+        pthread_mutex_lock(&b->lock);
+    }
     while (!b->is_over && b->unanswered >= b->limits[2]) pthread_cond_wait(&b->changed, &b->lock);
     b->unanswered += 1;
     pthread_mutex_unlock(&b->lock);
+}
+
+uint64_t bookie_send(bookie *b, int call, const uint64_t *numbers, const void *bytes, size_t length) {
+    const kind *k = FIND(CALLS, call);
+    if (k == NULL || length < k->least || length > k->most) return 0;
+    size_t size = 13 + 8 * k->numbers;
+    uint8_t head[13 + 8 * 3];
+    request *r = calloc(1, sizeof *r);
+    if (r == NULL) return 0;
+    put(head, size - 4 + length, 4);
+    head[12] = (uint8_t)call;
+    for (size_t i = 0; i < k->numbers; i++) put(head + 13 + 8 * i, numbers[i], 8);
+    wait_for_room(b);
     pthread_mutex_lock(&b->writing);
     pthread_mutex_lock(&b->lock);
     uint64_t id = r->id = ++b->last;
-    int is_over = b->is_over;
     *at(b, id) = r;
     pthread_mutex_unlock(&b->lock);
-    put(frame + 4, id, 8);
-    /* If the write fails, the reader meets the end of the replies. */
-    if (!is_over) (void)write_all(b->out, frame, size);
+    put(head + 4, id, 8);
+    b->held_count += 1;
+    hold(b, head, size);
+    hold(b, bytes, length);
+    int is_much = b->held_bytes >= GATHERED;
     pthread_mutex_unlock(&b->writing);
-    free(frame);
+    /* After the unlock, so that the reader or this thread sees that nothing is on its way. */
+    pthread_mutex_lock(&b->lock);
+    int is_idle = b->written == b->answered;
+    pthread_mutex_unlock(&b->lock);
+    if (is_much || is_idle) flush_held(b);
     return id;
 }
 
@@ -272,6 +362,11 @@ int bookie_wait(bookie *b, uint64_t id, bookie_reply *reply) {
     pthread_mutex_lock(&b->lock);
     request **place = at(b, id), *r = *place;
     if (r != NULL) {
+        if (!r->is_answered) {
+            pthread_mutex_unlock(&b->lock);
+            flush_held(b);
+            pthread_mutex_lock(&b->lock);
+        }
         while (!r->is_answered && !b->is_over) pthread_cond_wait(&b->changed, &b->lock);
         got = r->reply;
         if (!r->is_answered) got.status = BOOKIE_GONE;
@@ -319,6 +414,11 @@ static int start(bookie *b, char *const command[]) {
     }
     fcntl(to[1], F_SETFD, FD_CLOEXEC);
     fcntl(from[0], F_SETFD, FD_CLOEXEC);
+    fcntl(to[1], F_SETFL, O_NONBLOCK);
+#ifdef F_SETPIPE_SZ
+    (void)fcntl(to[1], F_SETPIPE_SZ, PIPE);
+    (void)fcntl(from[1], F_SETPIPE_SZ, PIPE);
+#endif
     posix_spawn_file_actions_init(&actions);
     posix_spawn_file_actions_adddup2(&actions, to[0], 0);
     posix_spawn_file_actions_adddup2(&actions, from[1], 1);
@@ -328,7 +428,7 @@ static int start(bookie *b, char *const command[]) {
     posix_spawn_file_actions_destroy(&actions);
     close(to[0]);
     close(from[1]);
-    b->in = from[0];
+    b->in.file = from[0];
     b->out = to[1];
     return failed ? -1 : 0;
 }
@@ -351,10 +451,13 @@ static void let_go(bookie *b) {
 static void end(bookie *b) {
     if (b->is_ended) return;
     b->is_ended = 1;
+    pthread_mutex_lock(&b->writing);
     close(b->out);
+    b->out = -1; /* so that a later write fails */
+    pthread_mutex_unlock(&b->writing);
     while (waitpid(b->child, &b->status, 0) < 0 && errno == EINTR) continue;
     pthread_join(b->reader, NULL);
-    close(b->in);
+    close(b->in.file);
 }
 
 int bookie_open(char *const command[], bookie **out) {

@@ -67,7 +67,7 @@ enum bookie_status {
     BOOKIE_FLUSHED = 47, /* entries */
     BOOKIE_DURABLE = 48, /* front */
     BOOKIE_COMPACTED = 49, /* logs, entries */
-    BOOKIE_FIGURES = 50, /* logs, bytes, live, cached, leases, failures, next_log, front */
+    BOOKIE_FIGURES = 50, /* logs, bytes, live, cached, indexed, durable, next_log, front */
     BOOKIE_SEALED = 51, /* log */
     BOOKIE_NOTHING_OPEN = 52, /* no fields */
     BOOKIE_CLOSED = 53, /* front */
@@ -136,7 +136,10 @@ int bookie_open(char *const command[], bookie **out);
 const uint64_t *bookie_limits(const bookie *b);
 
 /* Sends a request with the numbers of its call and these bytes. Blocks while the server has as many unanswered as it takes.
- * Returns the id to wait for, or 0 if these are not the fields of the call or memory is short. */
+ * Returns the id to wait for, or 0 if these are not the fields of the call or memory is short.
+ *
+ * A request is written at once if no other one is on its way. Else it may be held back until 8 KiB have gathered, a thread waits for
+ * a reply, or the next replies come, so that many are written together. */
 uint64_t bookie_send(bookie *b, int call, const uint64_t *numbers, const void *bytes, size_t length);
 
 /* Waits for the reply of a request, and returns its status. `reply` may be NULL. */
@@ -193,7 +196,7 @@ int bookie_seal(bookie *b);
 
 /* ---- The end. Both end the server, free b, and return the server's exit status as waitpid gives it, or -1. */
 
-/* In order: everything that was accepted is durable then. No other call may be under way. */
+/* In order: if it returns 0, everything that was accepted is durable. No other call may be under way. */
 int bookie_close(bookie *b);
 /* Kills the server, as a crash does. bookie_wait and bookie_send may be called until bookie_close: they return BOOKIE_GONE. */
 void bookie_kill(bookie *b);

@@ -130,7 +130,7 @@ static void add_all(bookie *b, bookie_receipt *one) {
 
 /* ---- reads */
 
-/* Whether the server has every call but stats; else it has none that lists, and no attributes. */
+/* Whether the server has every call; else it has none that lists, no attributes and no stats. */
 static int offers_all(bookie *b) {
     uint64_t found[PAGE];
     size_t n;
@@ -248,12 +248,13 @@ static void attributes(bookie *b) {
     printf("is fenced %s %s\n", is_fenced, bookie_status_text(bookie_is_fenced(b, 3)));
 }
 
-static void failures(bookie *b) {
-    bookie_reply figures;
-    int status = bookie_stats(b, &figures);
-    if (status == BOOKIE_NOT_OFFERED) return;
-    must("stats", status, BOOKIE_FIGURES);
-    printf("failures %llu\n", (unsigned long long)figures.numbers[5]);
+static void figures(bookie *b) {
+    bookie_reply reply;
+    must("stats", bookie_stats(b, &reply), BOOKIE_FIGURES);
+    unsigned long long found[8];
+    for (int i = 0; i < 8; i++) found[i] = reply.numbers[i];
+    const char *within = yes(found[2] <= found[1] && found[5] <= found[7]);
+    printf("figures %llu %llu %llu %s\n", found[7], found[3], found[4], within);
 }
 
 static uint64_t send_large(bookie *b, uint64_t entry) {
@@ -361,7 +362,7 @@ int main(int count, char **words) {
     fences(b);
     if (offers_all(b)) {
         attributes(b);
-        failures(b);
+        figures(b);
     }
     deletions_and_upkeep(b);
     bookie_close(b);

@@ -212,7 +212,10 @@ class Bookie:
     # ---- end
 
     def close(self):
-        """Ends the session in order. Returns the exit status of the server. A second call does nothing."""
+        """Ends the session in order. Returns the exit status of the server. A second call does nothing.
+
+        If the flush fails, the session ends too, and `Refused` is raised, which names why.
+        """
         try:
             if self._why is None:
                 self._call("close")

@@ -68,7 +68,7 @@ def add_all(bookie):
 
 
 def offers_all(bookie):
-    """Returns whether the server has every call but `stats`; else it has none that lists, and no attributes."""
+    """Returns whether the server has every call; else it has none that lists, no attributes and no `stats`."""
     return refusal(lambda: list(bookie.ledgers())) != "not_offered"
 
 
@@ -136,9 +136,9 @@ def attributes(bookie):
     print("is fenced", yes(bookie.is_fenced(1)), yes(bookie.is_fenced(3)))
 
 
-def failures(bookie):
-    if refusal(bookie.stats) != "not_offered":
-        print("failures", bookie.stats().failures)
+def figures(bookie):
+    found = bookie.stats()
+    print("figures", found.front, found.cached, found.indexed, yes(found.live <= found.bytes and found.durable <= found.front))
 
 
 def first_session(bookie):
@@ -157,7 +157,7 @@ def first_session(bookie):
     print("negative", refusal(bookie.add, 2**63, 0, b"x"))
     if offers_all(bookie):
         attributes(bookie)
-        failures(bookie)
+        figures(bookie)
     print("deleted", bookie.delete(2), refusal(bookie.delete, 2), refusal(bookie.read, 2, 0), refusal(bookie.add, 2, 0, b"x"))
     print("holds", yes(bookie.holds(2, 0)))
     bookie.seal()

@@ -142,6 +142,19 @@ def check_hostile(program, directory, data, expected):
         assert server.end() == ([], 0)
 
 
+def check_front(program, directory):
+    """The durable front is the length of the trail when the last flush began, whatever was added since."""
+    server = Server(program, directory)
+    server.ask(request(0, "hello", **HELLO))
+    found = []
+    for id, name in enumerate(("stats", "add", "stats", "flush", "stats", "add", "add", "stats", "flush", "stats"), 1):
+        reply = server.ask(request(id, name, ledger=1, entry=id, content=b"x"))[1]
+        if name == "stats":
+            found.append((reply.durable, reply.front))
+    assert found == [(0, 0), (0, 1), (1, 1), (1, 3), (3, 3)], found
+    assert server.end() == ([], 0)
+
+
 def main(program, directory):
     worked, count, missing = list(sessions()), 0, 0
     for i, session in enumerate(worked):
@@ -152,6 +165,7 @@ def main(program, directory):
     attacks = list(hostile())
     for i, (data, expected) in enumerate(attacks):
         check_hostile(program, f"{directory}/hostile{i}", data, expected)
+    check_front(program, f"{directory}/front")
     print(f"{len(worked)} worked sessions of {count} frames, {len(attacks)} hostile sessions; {missing} requests not offered")
 
 

@@ -451,7 +451,8 @@ impl Bookie {
 
     // ---- end
 
-    /// Ends the session in order: everything that was accepted is durable then. Returns the server's exit status.
+    /// Ends the session in order: everything that was accepted is durable then. Returns the server's exit status. If the
+    /// flush fails, the session ends too, and the error is why.
     pub fn close(&self) -> Result<ExitStatus, Error> {
         match self.call(Call::Close, &[], &[]) {
             Ok(_) | Err(Error::Ended(_)) => self.end(),

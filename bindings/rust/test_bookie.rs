@@ -92,7 +92,7 @@ fn add_all(bookie: &Bookie) -> Result<Receipt, Error> {
     Ok(two[77])
 }
 
-/// Returns whether the server has every call but `stats`; else it has none that lists, and no attributes.
+/// Returns whether the server has every call; else it has none that lists, no attributes and no `stats`.
 fn offers_all(bookie: &Bookie) -> Result<bool, Error> {
     Ok(refusal(bookie.ledgers())? != "not_offered")
 }
@@ -148,10 +148,10 @@ fn attributes(bookie: &Bookie) -> Result<(), Error> {
     Ok(())
 }
 
-fn failures(bookie: &Bookie) -> Result<(), Error> {
-    if refusal(bookie.stats())? != "not_offered" {
-        println!("failures {}", bookie.stats()?.numbers[5]);
-    }
+fn figures(bookie: &Bookie) -> Result<(), Error> {
+    let found = bookie.stats()?.numbers;
+    let within = found[2] <= found[1] && found[5] <= found[7];
+    println!("figures {} {} {} {}", found[7], found[3], found[4], yes(within));
     Ok(())
 }
 
@@ -180,7 +180,7 @@ fn ledgers(bookie: &Bookie) -> Result<(), Error> {
     println!("negative {}", refusal(bookie.add(1 << 63, 0, b"x"))?);
     if offers_all(bookie)? {
         attributes(bookie)?;
-        failures(bookie)?;
+        figures(bookie)?;
     }
     print!("deleted {} {} ", bookie.delete(2)?, refusal(bookie.delete(2))?);
     println!("{} {}", refusal(bookie.read(2, 0))?, refusal(bookie.add(2, 0, b"x"))?);

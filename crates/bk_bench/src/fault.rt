@@ -8,7 +8,7 @@ use thiserror::Error;
 #[derive(Clone, Copy, Debug, Error)]
 pub(crate) enum BenchFault {
     /// The words of the command line are not valid.
-    #[error("entries N ORDER, trail N.., memory WHAT N ORDER, or folder WHAT ..")]
+    #[error("entries N ORDER, trail N.., flushing N, memory WHAT N ORDER, or folder WHAT ..")]
     Words,
     /// Out of memory.
     #[error("memory")]

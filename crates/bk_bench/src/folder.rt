@@ -5,7 +5,7 @@
 
 use crate::BenchFault;
 use crate::entries::{Amount, LEDGERS, Order, payload_of};
-use crate::stages::{SETTINGS, add, compact, digest, fetch, publish, write};
+use crate::stages::{SETTINGS, add, compact, delete, digest, fetch, publish, scan, write};
 use bk_disk::{DirDisk, LogDisk};
 use bk_manifest_disk::open_logs;
 use bk_store::{Settings, Store};
@@ -18,11 +18,11 @@ const IDS: u64 = 16;
 /// A stage over a directory.
 #[derive(Clone, Copy)]
 pub(crate) enum FolderWork {
-    /// Adds, flushes and reads entries by leases.
+    /// Adds and flushes entries, reads them by leases, and scans their log.
     Fill(Filling),
     /// The same with a manifest of the logs.
     Record(Filling),
-    /// Opens a store on the logs of the directory.
+    /// Opens a store on the logs of the directory, then deletes every tenth ledger.
     Open,
     /// Compacts the log with the lowest live share, with every tenth ledger deleted.
     Compact,
@@ -117,7 +117,7 @@ fn fill<D: LogDisk>(rt: &HostRuntime, disk: D, filling: Filling) -> Result<(), B
     fill_store(rt, &mut store, filling)
 }
 
-/// Adds, flushes and reads all entries.
+/// Adds, flushes and reads all entries, and scans the first log.
 fn fill_store<D: LogDisk>(
     rt: &HostRuntime,
     store: &mut Store<D>,
@@ -139,7 +139,8 @@ fn fill_store<D: LogDisk>(
     tell_time(rt, "add", amount.count, times.add)?;
     tell_time(rt, "write", amount.count, times.write)?;
     tell_time(rt, "publish", amount.count, times.publish)?;
-    read(rt, store, amount)
+    read(rt, store, amount)?;
+    scan_first(rt, store, amount.count)
 }
 
 /// Returns the payloads of the flush with this number, counted from 0.
@@ -193,11 +194,28 @@ fn read<D: LogDisk>(
     tell_time(rt, "fetch", fetched, time)
 }
 
+/// Scans the first log, up to `most` entries.
+fn scan_first<D: LogDisk>(rt: &HostRuntime, store: &Store<D>, most: u64) -> Result<(), BenchFault> {
+    let begun = Instant::now(rt)?;
+    let scanned = scan(store, rt.alloc(), most)?;
+    let time = since(rt, begun)?;
+    tell_time(rt, "scan", scanned, time)
+}
+
 fn open(rt: &HostRuntime, path: &str) -> Result<(), BenchFault> {
     let begun = Instant::now(rt)?;
-    let store = opened(rt, disk_at(rt, path)?, SETTINGS, &[])?;
+    let mut store = opened(rt, disk_at(rt, path)?, SETTINGS, &[])?;
     let time = since(rt, begun)?;
-    tell_time(rt, "open", store.index().len() as u64, time)
+    tell_time(rt, "open", store.index().len() as u64, time)?;
+    delete_tenths(rt, &mut store)
+}
+
+/// Deletes every tenth ledger.
+fn delete_tenths(rt: &HostRuntime, store: &mut Store<DirDisk>) -> Result<(), BenchFault> {
+    let begun = Instant::now(rt)?;
+    let deleted = delete(store)?;
+    let time = since(rt, begun)?;
+    tell_time(rt, "delete", deleted, time)
 }
 
 fn compact_one(rt: &HostRuntime, path: &str) -> Result<(), BenchFault> {

@@ -4,6 +4,7 @@
 
 mod entries;
 mod fault;
+mod flushing;
 mod folder;
 mod memory;
 mod run;
@@ -30,6 +31,7 @@ fn work(rt: &HostRuntime) -> Result<(), BenchFault> {
     match read_words(rt)? {
         Work::Entries(amount) => run::run(rt, amount),
         Work::Trail(lengths) => trail::run(rt, &lengths),
+        Work::Flushing(count) => flushing::run(rt, count),
         Work::Memory(holding, amount) => memory::run(rt, holding, amount),
         Work::Folder(path, work) => folder::run(rt, &path, work),
     }

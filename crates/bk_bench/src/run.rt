@@ -45,6 +45,7 @@ fn fill(
     keys: &[Key],
     payloads: &[Vec<u8>],
 ) -> Result<(), BenchFault> {
+    tell(rt, "payloads", payloads.len() as u64)?;
     tell(rt, "digest", digest(payloads))?;
     let added = add(store, payloads)?;
     tell(rt, "add", added)?;

@@ -125,7 +125,11 @@ pub(crate) fn fetch<D: LogDisk>(
 
 /// Scans the first log, which has all entries, up to `most`.
 #[inline(never)]
-pub(crate) fn scan(store: &Store<MemDisk>, alloc: Global, most: u64) -> Result<u64, BenchFault> {
+pub(crate) fn scan<D: LogDisk>(
+    store: &Store<D>,
+    alloc: Global,
+    most: u64,
+) -> Result<u64, BenchFault> {
     match store.log_view(0) {
         Some(view) => scan_log(&**view, alloc, most),
         None => Err(BenchFault::Answer("scan")),
@@ -167,7 +171,7 @@ pub(crate) fn reopen(
 
 /// Deletes every tenth ledger. Returns the number of their keys.
 #[inline(never)]
-pub(crate) fn delete(store: &mut Store<MemDisk>) -> Result<u64, BenchFault> {
+pub(crate) fn delete<D: LogDisk>(store: &mut Store<D>) -> Result<u64, BenchFault> {
     let mut count = 0u64;
     for tenth in 0..LEDGERS / 10 {
         let Ok(keys) = store.delete(10 * tenth) else {
@@ -219,5 +223,14 @@ pub(crate) fn one_add(store: &mut Store<MemDisk>, payload: &[u8]) -> Result<(), 
     match store.add(payload) {
         Ok(Added::Accepted(_)) => Ok(()),
         _ => Err(BenchFault::Answer("add")),
+    }
+}
+
+/// Deletes one ledger. Returns the number of its keys.
+#[inline(never)]
+pub(crate) fn one_delete(store: &mut Store<MemDisk>, ledger: u64) -> Result<u64, BenchFault> {
+    match store.delete(ledger) {
+        Ok(keys) => Ok(keys),
+        Err(_) => Err(BenchFault::Answer("delete")),
     }
 }

@@ -14,13 +14,16 @@ pub(crate) enum Work {
     Entries(Amount),
     /// Adds at these lengths of the trail.
     Trail(Vec<u64>),
+    /// Deletions beside N entries of a flush.
+    Flushing(u64),
     /// N entries held in memory in one form.
     Memory(Holding, Amount),
     /// A stage over the directory at a path.
     Folder(String, FolderWork),
 }
 
-/// Reads the words: `entries N ORDER`, `trail N..`, `memory WHAT N ORDER`, `folder WHAT ..`.
+/// Reads the words: `entries N ORDER`, `trail N..`, `flushing N`, `memory WHAT N ORDER`, `folder
+/// WHAT ..`.
 pub(crate) fn read_words(rt: &HostRuntime) -> Result<Work, BenchFault> {
     let words: Vec<String> = env::args(rt)?.collect(rt.alloc())?;
     let texts = texts_of(rt.alloc(), &words)?;
@@ -29,6 +32,7 @@ pub(crate) fn read_words(rt: &HostRuntime) -> Result<Work, BenchFault> {
         ["memory", holding, count, order] => {
             Ok(Work::Memory(holding_named(holding)?, amount(count, order)?))
         }
+        ["flushing", count] => Ok(Work::Flushing(number(count)?)),
         ["trail", lengths @ ..] => Ok(Work::Trail(numbers(rt.alloc(), lengths)?)),
         ["folder", words @ ..] => folder_work(rt.alloc(), words),
         _ => Err(BenchFault::Words),

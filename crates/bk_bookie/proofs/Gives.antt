@@ -62,7 +62,7 @@ module _ (s : State) (kept : SatisfiesInvariant s) (truth : IsTrue s.honest) (ke
   has = map_of s kept truth
 
   abbrev pub plain : AbstractState
-  plain = record { map = has.map; ledgers = s.ledgers; active = s.caches.active; flush = s.caches.flush }
+  plain = record { map = has.map; ledgers = s.ledgers; active = s.caches.active; flush = s.caches.flush; fronts = s.fronts }
 
   -- A payload of the map has the key that it is stored under.
   mapped_key : (key : EntryKey) (payload : List ℕ) → finite.get has.map key ≡ Some payload → key_of payload ≡ Some key
@@ -85,6 +85,7 @@ module _ (s : State) (kept : SatisfiesInvariant s) (truth : IsTrue s.honest) (ke
     ledgers = refl;
     active = refl;
     flush = refl;
+    fronts = refl;
   }
 
   module _ (meaning : MeaningLaw) {V : Type 0} (bytes : V → List ℕ) (honest sound : V → Bool) (law : TakeLaw bytes honest sound) where

@@ -5,3 +5,4 @@ pub mod Guarded
 pub mod Calls
 pub mod Works
 pub mod LedgerReads
+pub mod Counting

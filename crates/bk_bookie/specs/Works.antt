@@ -70,4 +70,5 @@ is_failed (answers.Switch answer) = false
 is_failed (answers.Finish answer) = false
 is_failed (answers.GiveUp answer) = false
 is_failed (answers.Read answer) = has_failed answer
+is_failed (answers.Stats counts) = false
 is_failed answers.Unrecorded = true

@@ -5,6 +5,7 @@
 mod add_request;
 mod bookie;
 mod calls;
+mod counting;
 mod ending;
 mod fault;
 mod fetching;

@@ -18,6 +18,7 @@ use std::sync::ledger::Blank;
 
 mod callers;
 mod calls;
+mod durable;
 mod fencing;
 mod leases;
 mod many;

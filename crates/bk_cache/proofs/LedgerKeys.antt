@@ -1,6 +1,6 @@
 -- The keys of one ledger in a write cache are adjacent, from the least key of the ledger on.
-use Rattle.std.proofs.Common.{◌≡◌, ℕ, ◌<◌, ◌≤◌, ◌^◌, Bool, true, false, cond, eqb, eqb-true, eq-eqb, ◌&&◌, ◌⊎◌, inl, inr, List, [], ◌∷◌}
-use Rattle.std.proofs.Common.{drop, Option, Some, None, IsSome, is_some, option_map, slice_get, IsTrue, refl, sym, ap, ◌∙◌}
+use Rattle.std.proofs.Common.{◌≡◌, ℕ, ◌<◌, ◌≤◌, ◌^◌, Bool, true, false, cond, eqb, eqb-true, ◌&&◌, ◌⊎◌, inl, inr, List, [], ◌∷◌}
+use Rattle.std.proofs.Common.{drop, Option, Some, None, slice_get, IsTrue, refl, sym, ap, ◌∙◌}
 use Rattle.std.proofs.Common.{arith}
 use mathlib.Core.Bool.{false≢true}
 use Rattle.std.specs.declared.cmp.Ordering.TheVariants.{Less, Equal, Greater}
@@ -9,9 +9,8 @@ use Rattle.std.specs.Ordering.{nat_cmp, ordering_then, eq_by_cmp, is_lt, is_le}
 use Rattle.std.specs.BTreeMap.Range.{range_contains}
 use Rattle.std.specs.List.{filter}
 use Rattle.std.specs.Cmp.{Equal-is}
-use Rattle.std.specs.FinMap.{get, remove, get-remove, find, is_sorted, from_sorted, same_map}
+use Rattle.std.specs.FinMap.{get, find, is_sorted, from_sorted, same_map}
 use Rattle.std.specs.FinMap.Entries.{find-where_key}
-use Rattle.std.proofs.lemmas.Option.{slice_get-map}
 use Rattle.std.proofs.lemmas.Cmp.{ranked}
 use Rattle.bk_record.specs.Key.{EntryKey, key_cmp}
 use Rattle.bk_record.specs.Scan.{Payloads}
@@ -22,7 +21,7 @@ use Rattle.bk_record.proofs.SortedPairs.{Some-same, find_at, filter-behind}
 use Rattle.bk_record.proofs.SortedMaps.{is_sorted-filter, get-sorted}
 use Rattle.bk_cache.specs.Invariant.{KeepsPairs}
 use Rattle.bk_cache.proofs.KeyBounds.{added_ids}
-use Rattle.bk_cache.proofs.Seen.{seen, filter-seen}
+use Rattle.bk_cache.specs.Recents.{Entry}
 
 -- a map without a key of the ledger is unchanged
 pub without_ledger-none : (m : Payloads) (ledger : ℕ) → ((q : EntryKey) (payload : List ℕ) → get m q ≡ Some payload → q.ledger ≡ ledger → ⊥)
@@ -36,21 +35,6 @@ without_ledger-none m ledger none = same_map key_cmp_total key_cmp_antisymmetric
     lacks : (q : EntryKey) (o : Option (List ℕ)) → get m q ≡ o → q.ledger ≡ ledger → None ≡ o
     lacks q None is same = refl
     lacks q (Some payload) is same = absurd (none q payload is same)
-
--- removing a key of the ledger first makes no difference
-pub without_ledger-remove : (m : Payloads) (key : EntryKey) (ledger : ℕ) → key.ledger ≡ ledger → without_ledger (remove m key) ledger ≡ without_ledger m ledger
-without_ledger-remove m key ledger own = same_map key_cmp_total key_cmp_antisymmetric _ _ (λ q. get-without_ledger (remove m key) ledger q
-    ∙ ap (cond (eqb q.ledger ledger) None) (get-remove key_cmp_total m key q)
-    ∙ elim (eqb q.ledger ledger) as (λ b. eqb q.ledger ledger ≡ b → cond b None (cond (eq_by_cmp key_cmp q key) None (get m q)) ≡ cond b None (get m q)) [
-      | true ↦ λ _. refl
-      | false ↦ λ apart. elim (eq_by_cmp key_cmp q key) as (λ b. eq_by_cmp key_cmp q key ≡ b → cond b None (get m q) ≡ get m q) [
-        | true ↦ λ tied.
-            let same : q.ledger ≡ ledger = ap (λ (k : EntryKey). k.ledger) (key_cmp_antisymmetric q key ((Equal-is (key_cmp q key)).0 tied)) ∙ own in
-            absurd (false≢true (sym apart ∙ eq-eqb q.ledger ledger same))
-        | false ↦ λ _. refl
-      ] refl
-    ] refl
-    ∙ sym (get-without_ledger m ledger q))
 
 -- whether a key is at or after the least key of the ledger
 abbrev pub is_from : ℕ → EntryKey → Bool
@@ -150,34 +134,10 @@ module _ {X : Type 0} (pairs : List (EntryKey × X)) (sorted : IsTrue (is_sorted
         | inr lower ↦ omega (arith, ledger-le h.0 q lower)
       ]
 
--- the same for a write cache; `f` returns the bytes of a shared payload
-module _ {X : Type 0} (f : X → List ℕ) (es : List (EntryKey × X)) (used : ℕ) (kept : KeepsPairs (seen f es) used) (m : Payloads)
-    (view : from_sorted (seen f es) ≡ m) (ledger : ℕ) where
-  has : (q : EntryKey) → get m q ≡ find key_cmp q (seen f es)
-  has q = sym (ap (λ n. get n q) view) ∙ get-sorted key_cmp _ kept.sorted q
-
-  first_seen : (o : Option (EntryKey × X)) → slice_get (from_ledger ledger es) 0 ≡ o
-      → slice_get (from_ledger ledger (seen f es)) 0 ≡ option_map (λ e. (e.0, f e.1)) o
-  first_seen o is =
-      ap (λ xs. slice_get xs 0) (filter-seen f (λ k. is_from ledger k) es) ∙ slice_get-map (λ e. (e.0, f e.1)) (from_ledger ledger es) 0
-      ∙ ap (option_map (λ e. (e.0, f e.1))) is
-
-  -- no key has a ledger above 2 ^ 63 - 1
-  pub left-past : ((ledger < 2 ^ 63) × (0 < 2 ^ 63) → ⊥) → without_ledger m ledger ≡ m
-  left-past past = without_ledger-none m ledger (λ q payload is own.
-      let below : q.ledger < 2 ^ 63 = (added_ids payload q (kept.keyed q payload (sym (has q) ∙ is))).0 in
-      past (omega arith, omega arith))
-
-  -- no pair is at or after the ledger's least key
-  pub left-none : slice_get (from_ledger ledger es) 0 ≡ None → without_ledger m ledger ≡ m
-  left-none none = without_ledger-none m ledger (λ q payload is own.
-      none_found (seen f es) kept.sorted ledger q payload (sym (has q) ∙ is) own (first_seen None none))
-
-  -- the first pair from there is of another ledger
-  pub left-other : (h : EntryKey × X) → slice_get (from_ledger ledger es) 0 ≡ Some h → (h.0.ledger ≡ ledger → ⊥) → without_ledger m ledger ≡ m
-  left-other h at other = without_ledger-none m ledger (λ q payload is own.
-      other (other_found (seen f es) kept.sorted ledger (h.0, f h.1) q payload (first_seen (Some h) at) (sym (has q) ∙ is) own))
-
-  -- the first pair from there is an entry of the cache
-  pub first_held : (h : EntryKey × X) → slice_get (from_ledger ledger es) 0 ≡ Some h → IsSome (get m h.0)
-  first_held h at = ap is_some (has h.0 ∙ (first_found (seen f es) kept.sorted ledger (h.0, f h.1) (first_seen (Some h) at)).1)
+-- no key has a ledger above 2 ^ 63 - 1
+pub left-past : (pairs : List Entry) (len used : ℕ) → KeepsPairs pairs len used → (m : Payloads) → from_sorted pairs ≡ m → (ledger : ℕ)
+    → (ledger < 2 ^ 63 → ⊥) → without_ledger m ledger ≡ m
+left-past pairs len used kept m view ledger past = without_ledger-none m ledger (λ q payload is own.
+    let found : find key_cmp q pairs ≡ Some payload = sym (get-sorted key_cmp pairs kept.sorted q) ∙ ap (λ n. get n q) view ∙ is in
+    let below : q.ledger < 2 ^ 63 = (added_ids payload q (kept.keyed q payload found)).0 in
+    past (omega arith))

@@ -1,4 +1,11 @@
 pub mod Options
+pub mod KeyPlaces
+pub mod PagePairs
+pub mod PageOrder
+pub mod RowPages
+pub mod RowCache
+pub mod RowLedgers
+pub mod RowPuts
 pub mod Seen
 pub mod KeptPairs
 pub mod KeyedPayloads
@@ -7,7 +14,6 @@ pub mod KeyBounds
 pub mod LedgerKeys
 pub mod OneCache
 pub mod RemovedPairs
-pub mod CachePairs
 pub mod FirstAfter
 pub mod RecentPairs
 pub mod RecentPuts

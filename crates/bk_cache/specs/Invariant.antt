@@ -8,11 +8,12 @@ use Rattle.bk_record.specs.Record.{read_added}
 use Rattle.bk_cache.specs.Recents.{Entry}
 use Rattle.bk_cache.specs.Caches.{CacheState, used_of, flush_of, AllKeyed, AreApart}
 
--- of `Cache`: the pairs are sorted by key, each payload is stored under its key, and `used` is the
--- sum of their sizes
-pub record KeepsPairs (pairs : List Entry) (used : ℕ) : Type 0 where
+-- of `Cache`: the pairs are sorted by key, each payload is stored under its key, `len` is their
+-- number, and `used` is the sum of their sizes
+pub record KeepsPairs (pairs : List Entry) (len used : ℕ) : Type 0 where
   pub sorted : IsTrue (is_sorted key_cmp pairs)
   pub keyed : (key : EntryKey) (payload : List ℕ) → find key_cmp key pairs ≡ Some payload → read_added payload ≡ Ok key
+  pub numbered : len ≡ length pairs
   pub counted : used ≡ sum_by length (values_of pairs)
 
 -- Of `Caches`, before and after every call: each write cache is within the limit, no key is in

@@ -1,4 +1,6 @@
 pub mod Caches
 pub mod Recents
 pub mod Transitions
+pub mod Sorted
+pub mod Rows
 pub mod Invariant

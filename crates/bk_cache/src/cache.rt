@@ -1,19 +1,17 @@
-//! One write cache: shared payloads by key, and the sum of their sizes in bytes.
+//! One write cache: shared payloads by key, their number, and the sum of their sizes in bytes.
 
-ghost use Rattle.std.specs.Prelude.{◌≡◌, ◌↔◌, ◌+◌, ◌<◌, ◌^◌, Ok, None, length, option_map, IsSome, IfSome, IfNone, IfOk};
+ghost use Rattle.std.specs.Prelude.{◌≡◌, ◌+◌, ◌<◌, ◌^◌, Ok, length, option_map, IfSome, IfOk};
 ghost use Rattle.std.specs.FinMap as map;
 ghost use Rattle.bk_record.specs.Record.{read_added};
 ghost use Rattle.bk_record.specs.Keyed.{without_ledger, ledger_count};
 ghost use Rattle.bk_cache.specs.Caches.{used_of, AllKeyed, first_after};
 ghost use Rattle.bk_cache.specs.Transitions.{CacheInsertTransition};
 
-use crate::Flushing;
-use bk_record::Key;
+use crate::rows::Rows;
+use crate::{CacheNear, Flushing};
+use bk_record::{Key, LAST_ID};
 use std::alloc::{AllocError, Global};
-use std::collections::BTreeMap;
-use std::collections::btree_map::Entry;
 use std::marker::Model;
-use std::ops::Bound;
 use std::sync::Arc;
 
 mod in_order;
@@ -21,12 +19,12 @@ mod in_order;
 /// Payloads by key. Each is stored under its own key.
 #[derive(Drop)]
 pub(crate) struct Cache {
-    pairs: BTreeMap<Key, Arc<Vec<u8>>>,
+    rows: Rows,
+    len: u64,
     used: u64,
 }
 
 impl Model for Cache {
-    ghost use Rattle.std.specs.Prelude.{map};
     ghost use Rattle.std.specs.FinMap as entries;
     ghost use Rattle.bk_record.specs.Scan.{Payloads};
     ghost use Rattle.bk_cache.specs.Caches.{payloads_code};
@@ -36,9 +34,9 @@ impl Model for Cache {
 
     ghost coded = { payloads_code };
 
-    ghost view = { λ cache. entries.from_sorted (map (λ e. (e.0, e.1.value.items)) cache.pairs.entries) };
+    ghost view = { λ cache. entries.from_sorted cache.rows };
 
-    ghost invariant = { λ cache. KeepsPairs (map (λ e. (e.0, e.1.value.items)) cache.pairs.entries) cache.used };
+    ghost invariant = { λ cache. KeepsPairs cache.rows cache.len cache.used };
 }
 
 impl Cache {
@@ -47,7 +45,8 @@ impl Cache {
         ensures { result ≡ map.empty }
     {
         Cache {
-            pairs: BTreeMap::new(alloc),
+            rows: Rows::new(alloc),
+            len: 0,
             used: 0,
         }
     }
@@ -57,7 +56,9 @@ impl Cache {
         ensures count { result ≡ map.len self.now }
         ensures bound { result < 2 ^ 63 }
     {
-        self.pairs.len() as u64
+        // Lemma: each payload has at least 16 bytes.
+        let _used = self.used;
+        self.len
     }
 
     /// Returns the sum of the payloads' sizes in bytes.
@@ -68,11 +69,12 @@ impl Cache {
     }
 
     /// Returns the payload of a key.
+    #[inline]
     pub(crate) fn get(&self, key: &Key) -> Option<&Arc<Vec<u8>>>
         ensures value { option_map (λ payload. payload.now.value.items) result ≡ map.get self.now key.now }
         ensures keyed { IfSome result (λ payload. read_added payload.now.value.items ≡ Ok key.now) }
     {
-        self.pairs.get(key)
+        self.rows.get(key)
     }
 
     /// Adds a copy of a payload under its own key. Returns whether it was added: `false` if the
@@ -88,13 +90,13 @@ impl Cache {
         requires fits { used_of self.old + length payload.now < 2 ^ 64 }
         ensures transition { CacheInsertTransition self.old key payload.now result self.new }
     {
-        match self.pairs.entry(key)? {
-            Entry::Occupied(_) => Ok(false),
-            Entry::Vacant(room) => {
-                room.insert_entry(share(alloc, payload)?);
-                self.used += payload.len() as u64;
-                Ok(true)
-            }
+        match share(alloc, payload) {
+            Ok(shared) => self.put(key, shared),
+            // A key that the cache has does not fail.
+            Err(fault) => match self.get(&key) {
+                Some(_) => Ok(false),
+                None => Err(fault),
+            },
         }
     }
 
@@ -104,14 +106,13 @@ impl Cache {
         requires fits { used_of self.old + length payload.value.items < 2 ^ 64 }
         ensures transition { CacheInsertTransition self.old key payload.value.items result self.new }
     {
-        match self.pairs.entry(key)? {
-            Entry::Occupied(_) => Ok(false),
-            Entry::Vacant(room) => {
-                self.used += payload.len() as u64;
-                room.insert_entry(payload);
-                Ok(true)
-            }
+        let size = payload.len() as u64;
+        if !self.rows.put(key, payload)? {
+            return Ok(false);
         }
+        self.len += 1;
+        self.used += size;
+        Ok(true)
     }
 
     /// Removes the entries of a ledger and returns their number.
@@ -120,38 +121,14 @@ impl Cache {
         ensures count { result ≡ ledger_count self.old ledger }
         ensures bound { result < 2 ^ 63 }
     {
-        let before = self.len();
-        // The keys of a ledger are adjacent, so at most one other key is visited.
-        while let Some(key) = self.first_of(ledger) {
-            self.remove(&key);
+        let rows = &mut self.rows;
+        if ledger > LAST_ID {
+            return 0;
         }
-        before - self.len()
-    }
-
-    // The first key of a ledger.
-    fn first_of(&self, ledger: u64) -> Option<Key>
-        ensures some { IfSome result (λ key. (key.ledger ≡ ledger) × IsSome (map.get self.now key)) }
-        ensures none { IfNone result (without_ledger self.now ledger ≡ self.now) }
-    {
-        let pairs = &self.pairs;
-        let first = Key::new(ledger, 0)?;
-        let (key, _) = pairs
-            .range((Bound::Included(first), Bound::Unbounded))
-            .next()?;
-        if key.ledger() == ledger {
-            Some(*key)
-        } else {
-            None
-        }
-    }
-
-    // Removes the entry of a key, if the cache has one.
-    fn remove(&mut self, key: &Key)
-        ensures { self.new ≡ map.remove self.old key.now }
-    {
-        if let Some(payload) = self.pairs.remove(key) {
-            self.used -= payload.len() as u64;
-        }
+        let (count, bytes) = rows.drop_ledger(ledger);
+        self.len -= count;
+        self.used -= bytes;
+        count
     }
 
     /// Returns an iterator over the entries in key order.
@@ -159,9 +136,7 @@ impl Cache {
         ensures items { result ≡ map.entries self.now }
         ensures keyed { AllKeyed self.now }
     {
-        Flushing {
-            rest: Some(self.pairs.iter()),
-        }
+        self.rows.walk()
     }
 
     /// Returns the first entry after a key, or the first of all if there is no key.
@@ -169,15 +144,26 @@ impl Cache {
         ensures value { option_map (λ e. (e.0, e.1.now.value.items)) result ≡ first_after key self.now }
         ensures keyed { IfSome result (λ e. read_added e.1.now.value.items ≡ Ok e.0) }
     {
-        let Some(key) = key else {
-            let (first, payload) = self.pairs.first_key_value()?;
-            return Some((*first, payload));
-        };
-        let (next, payload) = self
-            .pairs
-            .range((Bound::Excluded(key), Bound::Unbounded))
-            .next()?;
-        Some((*next, payload))
+        self.first_after_near(key, &mut CacheNear::start())
+    }
+
+    /// Same as `first_after`, but looks for the key at the place that `near` tells first, and then
+    /// sets it to the place of the result.
+    pub(crate) fn first_after_near(
+        &self,
+        key: Option<Key>,
+        near: &mut CacheNear,
+    ) -> Option<(Key, &Arc<Vec<u8>>)>
+        ensures value { option_map (λ e. (e.0, e.1.now.value.items)) result ≡ first_after key self.now }
+        ensures keyed { IfSome result (λ e. read_added e.1.now.value.items ≡ Ok e.0) }
+    {
+        match key {
+            Some(key) => self.rows.first_after(&key, &mut near.place),
+            None => {
+                near.place = 0;
+                self.rows.first()
+            }
+        }
     }
 }
 

@@ -14,7 +14,7 @@ ghost use Rattle.bk_cache.specs.Transitions.{CacheAddTransition, CacheSwapTransi
 
 use crate::cache::Cache;
 use crate::recent::Recent;
-use crate::{CacheAdd, CacheFault, Flushing, Swap};
+use crate::{CacheAdd, CacheFault, CacheNear, Flushing, Swap};
 use bk_record::Key;
 use std::alloc::{AllocError, Global};
 use std::marker::Model;
@@ -262,7 +262,7 @@ impl Caches {
     {
         match &self.flush {
             Some(flush) => flush.walk(),
-            None => Flushing { rest: None },
+            None => Flushing::empty(),
         }
     }
 
@@ -275,6 +275,23 @@ impl Caches {
     {
         match &self.flush {
             Some(flush) => flush.first_after(key),
+            None => None,
+        }
+    }
+
+    /// Same as `flushing_after`, but looks beside the entry that the last call with this hint
+    /// returned, and sets the hint to the entry that it returns. The hint never changes the result.
+    pub fn flushing_after_near(
+        &self,
+        key: Option<Key>,
+        near: &mut CacheNear,
+    ) -> Option<(Key, &Arc<Vec<u8>>)>
+        ensures value { option_map (λ e. (e.0, e.1.now.value.items)) result ≡ first_after key (flush_of self.now) }
+        ensures keyed { IfSome result (λ e. read_added e.1.now.value.items ≡ Ok e.0) }
+        ensures sound { IsSound self.now }
+    {
+        match &self.flush {
+            Some(flush) => flush.first_after_near(key, near),
             None => None,
         }
     }

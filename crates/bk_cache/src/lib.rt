@@ -6,7 +6,10 @@ mod cache_add;
 mod caches;
 mod fault;
 mod flushing;
+mod near;
+mod page;
 mod recent;
+mod rows;
 mod swap;
 
 pub use cache::share;
@@ -14,4 +17,5 @@ pub use cache_add::CacheAdd;
 pub use caches::Caches;
 pub use fault::CacheFault;
 pub use flushing::Flushing;
+pub use near::CacheNear;
 pub use swap::Swap;

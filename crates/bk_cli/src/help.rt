@@ -113,6 +113,10 @@ and their answers:
                             list the first N entry ids of a ledger from FROM on
   ledgers FROM N            ledgers LEDGER .. | no ledger
                             list the first N ledgers with an entry from FROM on
+  stats                     stats cached N flushing N marks N durable N
+                            count the bytes in both caches, and the accepted adds,
+                            deletions and fences; the entries that the durable ones
+                            add are in synced logs
   swap                      swapped N | nothing | running
                             begin a flush of the N cached entries
   write                     wrote LOCATION | all written | no flush

@@ -14,7 +14,7 @@ closed_stays s t id turn =
         ledgers = ap (λ (x : State). x.ledgers) is;
         gone = gone_changed s t id turn.1.0 _ turn.1.1 (ap (λ (x : State). x.logs) is) (ap (λ (x : State). x.next) is);
       },
-      record { active = ap (λ (x : State). x.caches.active) is; flush = ap (λ (x : State). x.caches.flush) is },
+      record { active = ap (λ (x : State). x.caches.active) is; flush = ap (λ (x : State). x.caches.flush) is; fronts = ap (λ (x : State). x.fronts) is },
       ap (λ (x : State). x.failures) is,
     )
 
@@ -26,5 +26,5 @@ removed_stays s t id turn =
         ledgers = ap (λ (x : State). x.ledgers) is;
         gone = gone_removed s t id (ap (λ (x : State). x.logs) is) (ap (λ (x : State). x.next) is);
       },
-      record { active = ap (λ (x : State). x.caches.active) is; flush = ap (λ (x : State). x.caches.flush) is },
+      record { active = ap (λ (x : State). x.caches.active) is; flush = ap (λ (x : State). x.caches.flush) is; fronts = ap (λ (x : State). x.fronts) is },
     )

@@ -50,10 +50,10 @@ use Rattle.bk_crash.proofs.KeptIndex.{work_keeps}
 
 -- the abstract map of these contents
 abbrev seen : State → Payloads → AbstractState
-seen s map = record { map = map; ledgers = s.ledgers; active = s.caches.active; flush = s.caches.flush }
+seen s map = record { map = map; ledgers = s.ledgers; active = s.caches.active; flush = s.caches.flush; fronts = s.fronts }
 
 seen_refines : (s : State) (map : Payloads) → IsContents map s → StoreRefines s (seen s map)
-seen_refines s map means = record { meaning = means; ledgers = refl; active = refl; flush = refl }
+seen_refines s map means = record { meaning = means; ledgers = refl; active = refl; flush = refl; fronts = refl }
 
 -- The contents of a store are the map that it refines.
 contents_of : (s : State) (p : AbstractState) → StoreRefines s p → (key : EntryKey) → contents_at s key ≡ finite.get p.map key

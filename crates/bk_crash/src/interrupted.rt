@@ -60,6 +60,6 @@ fn perform<D: LogDisk>(store: &mut Store<D>, step: &Step)
         Step::Fence(ledger) => {
             let _ = store.fence(*ledger);
         }
-        Step::Fetch(_) | Step::Release(_) | Step::Read(_) => {}
+        Step::Fetch(_) | Step::Release(_) | Step::Read(_) | Step::Stats => {}
     }
 }

@@ -100,6 +100,17 @@ impl Blocks {
         }
     }
 
+    /// Returns the bytes from a position to the end of its block, none from the end on.
+    pub(crate) fn rest_of_block(&self, at: u64) -> &[u8]
+        ensures { HasPrefix (drop at self.now) result.now }
+    {
+        if at >= self.len() {
+            return &[];
+        }
+        let within = at as usize;
+        &self.block_of(within)[within % BLOCK..]
+    }
+
     // Returns the block that has a position.
     fn block_of(&self, at: usize) -> &[u8]
         requires { at < length self.now }

@@ -27,6 +27,21 @@ use std::alloc::{AllocError, Global};
 /// another file has its name. The directory is synced with each file that is made or removed, and a
 /// file that is patched is synced.
 ///
+/// # Appends are gathered
+///
+/// `append` copies its bytes into a window of the log, of 65,536 bytes. One call of the system
+/// writes the window once the next piece does not fit. `sync`, `patch`, `view`, `read_at` and `cut`
+/// of the log write it first, and so does the disk when it closes the file to make room for another
+/// one, or is dropped. `length` counts it, and `remove` drops it. A piece that is longer is written
+/// at once, behind the window; so is the first piece of a file that this disk made, and each one
+/// while memory for the window is refused.
+///
+/// A call that cannot write the window returns `Disk`, and the log is lost. Then bytes whose
+/// `append` returned `Ok` may not be in the file, if no `sync` returned `Ok` since. `append` itself
+/// reports the write of earlier pieces. If the write fails when the disk is dropped, the log is set
+/// aside, and a `FaultWatch` reports it. A process that is killed loses its windows. Others see the
+/// bytes once they are written.
+///
 /// # After a failed write or sync
 ///
 /// Each `append`, `patch` and `sync` of the log returns `Disk` until it is removed or made again:

@@ -4,12 +4,13 @@
 //! files hold on an honest disk, which may fail. On any disk each call returns, honesty is
 //! unchanged, and `Disk` is returned exactly if the number of failures rises.
 
-ghost use Rattle.std.specs.Prelude.{◌≡◌, ℕ, ◌<◌, ◌^◌, Bool, false, List, length, IsTrue, IsErrOf};
+ghost use Rattle.std.specs.Prelude.{◌≡◌, ℕ, ◌<◌, ◌^◌, Bool, false, List, length, drop, IsTrue, IsErrOf};
 ghost use Rattle.std.specs.List.{All};
 ghost use Rattle.bk_record.specs.Files.{Files};
 ghost use Rattle.bk_disk.specs.Disk.{AreLogFiles, FailsExactlyOnDiskFault, Lists, Measures, Creates, Appends, Patches, Syncs};
 ghost use Rattle.bk_disk.specs.Durable.{DurableGrows, IsAllDurable, SyncDurability, ListDurability, RemoveDurability};
 ghost use Rattle.bk_disk.specs.Disk.{Reads, Views, Removes, ReadsView, ReadsInto, view_end};
+ghost use Rattle.bk_disk.specs.Blocks.{HasPrefix};
 
 use crate::DiskFault;
 use bk_record::HEADER_LENGTH;
@@ -45,6 +46,14 @@ pub trait LogView: Send + Sync + Drop {
     fn read_into(&self, at: u64, out: &mut [u8]) -> Result<(), DiskFault>
         ensures cause { IsErrOf result DiskFault.Disk → sound self.now ≡ false }
         ensures transition { IsTrue (honest self.now) → ReadsInto (bytes self.now) at (length out.old) result out.new };
+
+    /// Returns bytes of the view from position `at` on that lie together in memory: any number of
+    /// them, none if the view keeps no bytes in memory there. Calls no device.
+    fn lend(&self, at: u64) -> &[u8]
+        ensures { IsTrue (honest self.now) → HasPrefix (drop at (bytes self.now)) result.now }
+    {
+        &[]
+    }
 
     /// Returns `n` bytes from position `at` on.
     ///

@@ -31,7 +31,6 @@ use std::sync::Arc;
 const STALE: i32 = 116;
 
 /// A directory of the system, with the files that are written.
-#[derive(Drop)]
 pub(crate) struct Folder {
     rt: HostRuntime,
     path: String,
@@ -226,13 +225,14 @@ impl Folder {
         Ok(None)
     }
 
-    // Opens a log's file.
+    // Opens a log's file, which then has all that was appended.
     fn open_log(
         &mut self,
         alloc: Global,
         log: u32,
         how: &OpenOptions,
     ) -> Result<Opened, DiskFault> {
+        self.write_gathered(alloc, log)?;
         let (path, found) = self.find(alloc, log)?;
         match open_found(&self.rt, &path, how, &found) {
             Ok(file) => Ok(Opened { path, file, found }),
@@ -257,10 +257,10 @@ impl Folder {
         }
     }
 
-    /// Returns the length of a log's file.
+    /// Returns the length of a log's file, with what was gathered of the log.
     pub(crate) fn length(&mut self, alloc: Global, log: u32) -> Result<u64, DiskFault> {
         let (_, found) = self.find(alloc, log)?;
-        Ok(found.len())
+        Ok(found.len().saturating_add(self.kept.gathered(log)))
     }
 
     /// Returns `n` bytes of a log's file from a position on.
@@ -329,6 +329,24 @@ impl Folder {
         };
         let path = self.path_of(alloc, log)?;
         Err(self.refuse(path, failed))
+    }
+}
+
+impl Drop for Folder {
+    /// Writes what was gathered of each log. A log of which this fails is set aside, and the watch
+    /// has the call that failed.
+    fn drop(mut self) {
+        self.write_all_gathered();
+        let Folder {
+            rt: _,
+            path: _,
+            lock: _,
+            kept: _,
+            troubles: _,
+            watch: _,
+            most_open: _,
+            has_unsynced_names: _,
+        } = self;
     }
 }
 

@@ -1,19 +1,21 @@
 //! Files of the logs that are written: each stays open until the log is sealed.
 //!
-//! An append is then one call of the system. The system reports a failed write-back to the files
-//! that were open when it occurred, so a file is synced before it is closed.
+//! What is appended is gathered in a window of the log (`window.rt`), which one call of the system
+//! writes. The system reports a failed write-back to the files that were open when it occurred, so
+//! a file is synced before it is closed.
 
 use crate::DiskFault;
 use crate::file_fault::{Failed, Operation};
+use crate::window::Window;
 use bk_record::MAX_LOG_LENGTH;
 use std::alloc::{AllocError, Global};
 use std::fs::{File, Metadata};
-use std::io::Write;
+use std::io::{self, Write};
 use std::os::unix::fs::MetadataExt;
 
 /// The most files of logs that stay open. A store writes two logs at a time, one of its flush and
 /// one of its compaction. The others are logs that it left unsealed.
-const MOST_KEPT: usize = 16;
+pub(crate) const MOST_KEPT: usize = 16;
 
 /// The file of a log that is written.
 #[derive(Drop)]
@@ -23,6 +25,8 @@ pub(crate) struct KeptLog {
     file: File,
     /// How long the file was left.
     length: u64,
+    /// What is to be written behind that.
+    window: Window,
     /// Whether this disk made the file.
     is_new: bool,
 }
@@ -40,49 +44,94 @@ pub(crate) enum Seen {
 
 impl KeptLog {
     /// Returns the open file of a log that was found.
-    pub(crate) fn found(log: u32, file: File, length: u64) -> KeptLog {
+    pub(crate) fn found(alloc: Global, log: u32, file: File, length: u64) -> KeptLog {
         KeptLog {
             log,
             file,
             length,
+            window: Window::new(alloc),
             is_new: false,
         }
     }
 
     /// Returns the open and empty file of a log that this disk made.
-    pub(crate) fn made(log: u32, file: File) -> KeptLog {
+    pub(crate) fn made(alloc: Global, log: u32, file: File) -> KeptLog {
         KeptLog {
             log,
             file,
             length: 0,
+            window: Window::new(alloc),
             is_new: true,
         }
     }
 
-    /// Returns whether nothing was written yet.
-    pub(crate) fn is_empty(&self) -> bool {
-        self.length == 0
+    /// Returns whether this disk made the file, and has written nothing to it. Then nothing is
+    /// gathered either.
+    pub(crate) fn is_unwritten(&self) -> bool {
+        self.is_new && self.length == 0
     }
 
-    /// Returns whether this disk made the file, and has written nothing to it.
-    pub(crate) fn is_unwritten(&self) -> bool {
-        self.is_new && self.is_empty()
+    /// Returns the number of bytes that are to be written.
+    pub(crate) fn gathered(&self) -> u64 {
+        self.window.bytes().len() as u64
     }
 
     /// Returns whether a piece of this length fits.
     pub(crate) fn has_room_for(&self, bytes: &[u8]) -> bool {
-        self.length <= MAX_LOG_LENGTH && bytes.len() as u64 <= MAX_LOG_LENGTH - self.length
+        let end = self.length.saturating_add(self.gathered());
+        end <= MAX_LOG_LENGTH && bytes.len() as u64 <= MAX_LOG_LENGTH - end
     }
 
-    /// Writes at the file's end.
+    /// Appends a piece: gathers it, once what was gathered before is written if both do not fit
+    /// into the window. The first piece of a file that this disk made is written at once, and so is
+    /// one that is longer than the window, or that has no memory to be gathered.
     pub(crate) fn append(&mut self, bytes: &[u8]) -> Result<(), Failed> {
-        match self.file.write_all(bytes) {
+        if self.is_unwritten() {
+            return self.write(bytes);
+        }
+        if self.window.gather(bytes) {
+            return Ok(());
+        }
+        self.write_gathered()?;
+        if self.window.gather(bytes) {
+            return Ok(());
+        }
+        self.write(bytes)
+    }
+
+    /// Writes what was gathered at the file's end. If this fails, a part of it may be there, and
+    /// the rest is dropped.
+    pub(crate) fn write_gathered(&mut self) -> Result<(), Failed> {
+        let count = self.gathered();
+        if count == 0 {
+            return Ok(());
+        }
+        let written = self.file.write_all(self.window.bytes());
+        self.window.clear();
+        self.left(written, count)
+    }
+
+    // Writes a piece at the file's end.
+    fn write(&mut self, bytes: &[u8]) -> Result<(), Failed> {
+        let written = self.file.write_all(bytes);
+        self.left(written, bytes.len() as u64)
+    }
+
+    // Notes how long the file is left once so many bytes were written.
+    fn left(&mut self, written: io::Result<()>, count: u64) -> Result<(), Failed> {
+        match written {
             Ok(()) => {
-                self.length = self.length.saturating_add(bytes.len() as u64);
+                self.length = self.length.saturating_add(count);
                 Ok(())
             }
             Err(reason) => Err(Failed::new(Operation::Write, reason)),
         }
+    }
+
+    // Writes what was gathered, and asks the device to keep all that was written.
+    fn end(&mut self) -> Result<(), Failed> {
+        self.write_gathered()?;
+        self.sync()
     }
 
     /// Asks the device to keep what was written.
@@ -153,20 +202,32 @@ impl KeptLogs {
         self.logs.iter_mut().find(|kept| kept.log == log)
     }
 
-    /// Makes room for one more file: if there is none, syncs and closes the one that was opened
-    /// first. Returns the log if its sync failed.
+    /// Returns the number of bytes of a log that are to be written.
+    pub(crate) fn gathered(&mut self, log: u32) -> u64 {
+        self.find(log).map_or(0, |kept| kept.gathered())
+    }
+
+    /// Makes room for one more file: if there is none, writes what was gathered of the one that was
+    /// opened first, syncs it and closes it. Returns the log if this failed.
     pub(crate) fn make_room(&mut self) -> Option<(u32, Failed)> {
         if self.logs.len() < MOST_KEPT {
             return None;
         }
-        let first = self.logs.first()?;
+        let first = self.logs.first_mut()?;
         let log = first.log;
-        let synced = first.sync();
+        let ended = first.end();
         let _ = self.logs.remove(0);
-        match synced {
-            Ok(()) => None,
-            Err(failed) => Some((log, failed)),
-        }
+        ended.err().map(|failed| (log, failed))
+    }
+
+    /// Writes what was gathered of the file that was opened first, and closes it. Returns the log
+    /// if this failed.
+    pub(crate) fn close_first(&mut self) -> Option<(u32, Failed)> {
+        let first = self.logs.first_mut()?;
+        let log = first.log;
+        let written = first.write_gathered();
+        let _ = self.logs.remove(0);
+        written.err().map(|failed| (log, failed))
     }
 
     /// Keeps a file open, for which room was made.

@@ -29,6 +29,7 @@ mod reason;
 mod refusal;
 mod trouble;
 mod unsynced;
+mod window;
 
 pub use cut_disk::CutDisk;
 pub use dir_disk::DirDisk;

@@ -51,6 +51,10 @@ impl LogView for MemView {
         self.bytes.len().max(HEADER)
     }
 
+    fn lend(&self, at: u64) -> &[u8] {
+        self.bytes.rest_of_block(at)
+    }
+
     fn read_into(&self, at: u64, out: &mut [u8]) -> Result<(), DiskFault> {
         let end = self.end();
         if at < HEADER || end < at || end - at < out.len() as u64 {

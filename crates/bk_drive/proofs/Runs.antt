@@ -135,6 +135,7 @@ first_agrees settings files dead s opened =
         ledgers = opened.ledgers_are;
         active = (λ i. (opened.caches_are i).active);
         flush = (λ i. (opened.caches_are i).flush);
+        fronts = opened.fronts_are;
       };
       readers = tt;
       leases = leases_first s.keeper reader_count;

@@ -1,8 +1,10 @@
 -- Simulation: each `MachineTransition` from states that refine each other has an
 -- `AbstractTransition` with the same answer, and the states after it refine each other again.
-use Rattle.std.proofs.Common.{◌≡◌, ℕ, List, Option, IsTrue, Result, Vec, sym, subst}
+use Rattle.std.proofs.Common.{◌≡◌, ℕ, List, length, Option, unwrap_or, IsTrue, Result, Vec, sym, subst, ◌∙◌}
 use Rattle.std.specs.declared.alloc.Global.{Global}
+use Rattle.std.specs.FinMap as finite
 use Rattle.bk_record.specs.Key.{EntryKey}
+use Rattle.bk_cache.specs.Caches.{used_of}
 use Rattle.bk_log.specs.declared.fault.FetchFault.{FetchFault}
 use Rattle.bk_store.specs.State.{State}
 use Rattle.bk_store.specs.Transitions.{AddTransition, DeleteTransition, FenceTransition}
@@ -18,7 +20,7 @@ use Rattle.bk_store.specs.declared.answer.FenceFault.{FenceFault}
 use Rattle.bk_drive.specs.Abstract.{AbstractMachine, abstract_after_work}
 use Rattle.bk_drive.specs.Machine.{ReaderLease, WorkTransition, ClosesOrRemoves, HasNoReader, MachineTransition, ReaderTakeTransition, ReaderFetchAnswer, ReaderReleaseTransition, AbstractTransition}
 use Rattle.bk_drive.specs.Machine.MachineTransition.{worked}
-use Rattle.bk_drive.specs.Machine.AbstractTransition.{worked as plain_worked, added, recovered, deleted, fenced, taken, fetched, released, asked}
+use Rattle.bk_drive.specs.Machine.AbstractTransition.{worked as plain_worked, added, recovered, deleted, fenced, taken, fetched, released, asked, counted}
 use Rattle.bk_drive.specs.ReaderLeases.{AreOpenLeases}
 use Rattle.bk_drive.specs.Headline.{LeasesRefine, MachineRefines}
 use Rattle.bk_drive.specs.declared.step.Step.{Step}
@@ -30,6 +32,8 @@ use Rattle.bk_drive.specs.declared.step.TakeAnswer.{TakeAnswer}
 use Rattle.bk_drive.specs.declared.step.FetchAnswer.{FetchAnswer}
 use Rattle.bk_drive.specs.declared.step.ReleaseAnswer.{ReleaseAnswer}
 use Rattle.bk_drive.specs.LedgerReads.{LedgerReadOf}
+use Rattle.bk_drive.specs.Counting.{counts_of, abstract_counts}
+use Rattle.bk_drive.specs.declared.counts.Counts.{Counts}
 use Rattle.bk_drive.specs.declared.ledger_reads.LedgerRead.{LedgerRead}
 use Rattle.bk_drive.specs.declared.ledger_reads.LedgerReadAnswer.{LedgerReadAnswer}
 use Rattle.bk_drive.proofs.LedgerReadRefinement.{reads_plain}
@@ -107,3 +111,15 @@ goes_released s readers readers' reader r turn leases = λ p agrees.
 pub goes_asked : (s : State) (readers : List (Option ReaderLease)) (kept : SatisfiesInvariant s) (honest : IsTrue s.honest) (read : LedgerRead)
     (r : LedgerReadAnswer) → LedgerReadOf s read r → GoesOn s readers (steps.Read read) (answers.Read r) s readers
 goes_asked s readers kept honest read r turn = λ p agrees. (p, asked (reads_plain s p.store kept honest agrees.store read r turn), agrees)
+
+pub goes_counted : (s : State) (readers : List (Option ReaderLease)) (counts : Counts) → counts ≡ counts_of s
+    → GoesOn s readers steps.Stats (answers.Stats counts) s readers
+goes_counted s readers counts turn = λ p agrees. (p, counted (turn ∙ same_counts s p.store agrees.store), agrees)
+  where
+    same_counts : (s : State) (p : AbstractState) → plain.StoreRefines s p → counts_of s ≡ abstract_counts p
+    same_counts s p agrees = λ i. record {
+      cached = used_of (agrees.active i);
+      flushing = used_of (unwrap_or (agrees.flush i) finite.empty);
+      front = length (agrees.ledgers i).trail;
+      durable = (agrees.fronts i).durable;
+    }

@@ -1,6 +1,6 @@
 -- A step of the store alone keeps `StoreRefines`, and its answer reports the failures of the
 -- device.
-use Rattle.std.proofs.Common.{◌≡◌, ℕ, None, Ok, IsTrue, cond, refl, sym, ◌∙◌, unwrap_or, arith}
+use Rattle.std.proofs.Common.{◌≡◌, ℕ, None, Ok, IsTrue, cond, refl, sym, ap, ◌∙◌, unwrap_or, arith}
 use Rattle.std.specs.Option.{option_or}
 use Rattle.std.specs.FinMap as finite
 use Rattle.std.specs.FinSet as set
@@ -11,8 +11,9 @@ use Rattle.bk_store.specs.State.{State}
 use Rattle.bk_store.specs.Contents.{contents_at, SameContents}
 use Rattle.bk_store.specs.Abstract.{AbstractState, StoreRefines, SatisfiesInvariant, pending_payload}
 use Rattle.bk_store.specs.Frame.{CoreUnchanged}
+use Rattle.bk_store.specs.Fronts.{fronts_after_flush}
 use Rattle.bk_flush.specs.declared.answer.PublishAnswer.TheVariants.{Published}
-use Rattle.bk_drive.specs.Abstract.{abstract_after_work}
+use Rattle.bk_drive.specs.Abstract.{abstract_after_publish, abstract_after_work}
 use Rattle.bk_drive.specs.Frame.{CachesFrame, FailureCountByAnswer}
 use Rattle.bk_drive.specs.Failing.{IsDiskFault, IsDeviceFault, AnswerReportsFailure}
 use Rattle.bk_drive.specs.declared.step.Answer.{Answer}
@@ -30,13 +31,14 @@ meaning_told s p ledgers active flush key i =
 
 -- A state with the same logical contents refines the map again, given its caches and ledgers.
 agrees_after : (s t : State) (p q : AbstractState) → StoreRefines s p → SameContents s t → q.map ≡ p.map → t.ledgers ≡ q.ledgers → t.caches.active ≡ q.active
-    → t.caches.flush ≡ q.flush → StoreRefines t q
-agrees_after s t p q agrees means map ledgers active flush = record {
+    → t.caches.flush ≡ q.flush → t.fronts ≡ q.fronts → StoreRefines t q
+agrees_after s t p q agrees means map ledgers active flush fronts = record {
   meaning = λ key. (λ i. finite.get (map i) key) ∙ agrees.meaning key ∙ sym (meaning_told s p agrees.ledgers agrees.active agrees.flush key)
       ∙ sym (means key) ∙ meaning_told t q ledgers active flush key;
   ledgers = ledgers;
   active = active;
   flush = flush;
+  fronts = fronts;
 }
 
 -- A store that refines an abstract map refines it after a step, except for which entries are only
@@ -45,11 +47,12 @@ pub work_agrees : (s t : State) (a : Answer) → SatisfiesInvariant s → IsTrue
     → StoreRefines t (abstract_after_work a p)
 work_agrees s t (answers.Swap r) kept honest stays turn p agrees = swapped_plain s t p kept honest agrees r turn
 work_agrees s t (answers.Publish (Ok (Published n))) kept honest stays left p agrees =
-    agrees_after s t p (record p { flush = None }) agrees (left.1 honest) refl (stays.ledgers ∙ agrees.ledgers) (left.0.0 ∙ agrees.active) left.0.1
+    agrees_after s t p (abstract_after_publish (Ok (Published n)) p) agrees (left.1 honest) refl (stays.ledgers ∙ agrees.ledgers)
+    (left.0.0 ∙ agrees.active) left.0.1 (left.0.2 ∙ ap fronts_after_flush agrees.fronts)
 work_agrees s t (answers.Publish _) kept honest stays left p agrees =
-    agrees_after s t p p agrees (left.1 honest) refl (stays.ledgers ∙ agrees.ledgers) (left.0.active ∙ agrees.active) (left.0.flush ∙ agrees.flush)
+    agrees_after s t p p agrees (left.1 honest) refl (stays.ledgers ∙ agrees.ledgers) (left.0.active ∙ agrees.active) (left.0.flush ∙ agrees.flush) (left.0.fronts ∙ agrees.fronts)
 work_agrees s t _ kept honest stays left p agrees =
-    agrees_after s t p p agrees (left.1 honest) refl (stays.ledgers ∙ agrees.ledgers) (left.0.active ∙ agrees.active) (left.0.flush ∙ agrees.flush)
+    agrees_after s t p p agrees (left.1 honest) refl (stays.ledgers ∙ agrees.ledgers) (left.0.active ∙ agrees.active) (left.0.flush ∙ agrees.flush) (left.0.fronts ∙ agrees.fronts)
 
 -- ---- failures of the device
 

@@ -9,6 +9,7 @@ use Rattle.bk_record.specs.Key.{EntryKey}
 use Rattle.bk_log.specs.declared.fault.FetchFault.{FetchFault}
 use Rattle.bk_log.specs.declared.fault.FetchFault.TheVariants as fetch_faults
 use Rattle.bk_store.specs.Abstract.{AbstractState, IsDeleted, IsAlive, abstract_after_swap}
+use Rattle.bk_store.specs.Fronts.{fronts_after_flush}
 use Rattle.bk_store.specs.declared.answer.TakeFault.{TakeFault}
 use Rattle.bk_store.specs.declared.answer.TakeFault.TheVariants as take_faults
 use Rattle.bk_flush.specs.declared.answer.PublishAnswer.{PublishAnswer}
@@ -81,13 +82,13 @@ AbstractReaderRelease readers reader releases.NoReader readers' = (length reader
 AbstractReaderRelease readers reader releases.NoLease readers' = IsIdleReader readers reader × (readers' ≡ readers)
 AbstractReaderRelease readers reader releases.Released readers' = IsBusy readers reader × (readers' ≡ slice_set readers reader None)
 
--- A publish that succeeds ends the flush: its entries are no longer only cached.
+-- A publish that succeeds ends the flush: its entries are no longer only cached, and durable.
 abbrev pub abstract_after_publish : Result PublishAnswer StepFault → AbstractState → AbstractState
-abstract_after_publish (Ok (Published n)) p = record p { flush = None }
+abstract_after_publish (Ok (Published n)) p = record p { flush = None; fronts = fronts_after_flush p.fronts }
 abstract_after_publish _ p = p
 
 -- The abstract map after a step of the store alone. A swap and a publish change which entries are
--- only cached. No step changes the map itself.
+-- only cached, and the fronts. No step changes the map itself.
 abbrev pub abstract_after_work : Answer → AbstractState → AbstractState
 abstract_after_work (answers.Swap r) p = abstract_after_swap r p
 abstract_after_work (answers.Publish r) p = abstract_after_publish r p

@@ -20,7 +20,7 @@ SlotsFrame s (answers.Close r) t = ¬ (r ≡ Closed) → SlotsUnchanged s.keeper
 SlotsFrame s (answers.Remove r) t = ¬ (r ≡ Ok Removed) → SlotsUnchanged s.keeper t.keeper
 SlotsFrame s _ t = SlotsUnchanged s.keeper t.keeper
 
--- The write caches are unchanged, except by a swap and a publish. On an honest disk the logical
+-- The write caches and the fronts are unchanged, except by a swap and a publish. On an honest disk the logical
 -- contents are unchanged.
 abbrev pub CachesFrame : State → Answer → State → Type 0
 CachesFrame s (answers.Swap r) t = SwapTransition s r t

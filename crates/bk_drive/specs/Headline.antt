@@ -15,6 +15,7 @@ use Rattle.bk_record.specs.Scan.{Ledgers, scan_of, live}
 use Rattle.bk_store.specs.Entries.{HasEntry}
 use Rattle.bk_store.specs.State.{State}
 use Rattle.bk_store.specs.Ledgers.{opened_ledgers}
+use Rattle.bk_store.specs.Fronts.{fronts_at}
 use Rattle.bk_store.specs.Transitions.{valid_ledgers}
 use Rattle.bk_store.specs.Opening.{IsOpened}
 use Rattle.bk_store.specs.Abstract as plain
@@ -73,7 +74,7 @@ initial_machine store = record { store = store; readers = replicate reader_count
 -- Deleted ledgers have no keys, nothing is cached only, and no reader holds a lease.
 abbrev pub initial_abstract : Files → Ledgers → AbstractMachine
 initial_abstract files dead = record {
-  store = record { map = live (scan_of files) dead; ledgers = opened_ledgers dead; active = finite.empty; flush = None };
+  store = record { map = live (scan_of files) dead; ledgers = opened_ledgers dead; active = finite.empty; flush = None; fronts = fronts_at 0 };
   readers = replicate reader_count None;
 }
 

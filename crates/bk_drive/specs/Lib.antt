@@ -1,5 +1,6 @@
 pub mod Abstract
 pub mod LedgerReads
+pub mod Counting
 pub mod Machine
 pub mod Held
 pub mod ReaderLeases

@@ -50,6 +50,8 @@ use Rattle.bk_compact.specs.declared.answer.FinishAnswer.{FinishAnswer}
 use Rattle.bk_compact.specs.declared.answer.GiveUpAnswer.{GiveUpAnswer}
 use Rattle.bk_drive.specs.Abstract.{AbstractLease, AbstractMachine, IsIdleReader, HasAt, IsBusy, AbstractReaderTake, AbstractReaderFetch, AbstractReaderRelease, abstract_after_work}
 use Rattle.bk_drive.specs.LedgerReads.{LedgerReadOf, AbstractLedgerRead}
+use Rattle.bk_drive.specs.Counting.{counts_of, abstract_counts}
+use Rattle.bk_drive.specs.declared.counts.Counts.{Counts}
 use Rattle.bk_drive.specs.declared.ledger_reads.LedgerRead.{LedgerRead}
 use Rattle.bk_drive.specs.declared.ledger_reads.LedgerReadAnswer.{LedgerReadAnswer}
 use Rattle.bk_drive.specs.declared.step.TakeAnswer.{TakeAnswer}
@@ -196,6 +198,7 @@ pub data MachineTransition : MachineState → Step → Answer → MachineState �
   released : {d : MachineState} {readers : List (Option ReaderLease)} {reader : ℕ} {r : ReleaseAnswer} → ReaderReleaseTransition d.readers reader r readers
       → MachineTransition d (steps.Release reader) (answers.Release r) (record d { readers = readers })
   asked : {d : MachineState} {read : LedgerRead} {r : LedgerReadAnswer} → LedgerReadOf d.store read r → MachineTransition d (steps.Read read) (answers.Read r) d
+  counted : {d : MachineState} {counts : Counts} → counts ≡ counts_of d.store → MachineTransition d steps.Stats (answers.Stats counts) d
 
 -- ---- the abstract machine
 
@@ -221,3 +224,5 @@ pub data AbstractTransition : ℕ → AbstractMachine → Step → Answer → Ab
       → AbstractTransition limit p (steps.Release reader) (answers.Release r) (record p { readers = readers })
   asked : {limit : ℕ} {p : AbstractMachine} {read : LedgerRead} {r : LedgerReadAnswer} → AbstractLedgerRead p.store read r
       → AbstractTransition limit p (steps.Read read) (answers.Read r) p
+  counted : {limit : ℕ} {p : AbstractMachine} {counts : Counts} → counts ≡ abstract_counts p.store
+      → AbstractTransition limit p steps.Stats (answers.Stats counts) p

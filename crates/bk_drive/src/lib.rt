@@ -1,6 +1,7 @@
 //! A machine over one store: steps, four readers, and the main theorem about lists of steps.
 #![tactic(auto)]
 
+mod counts;
 mod ledger_reads;
 mod readers;
 mod recorded;
@@ -20,6 +21,7 @@ pub use bk_store::{
     AddFault, AddKind, Added, DeleteFault, Fence, FenceFault, LogCause, Mark, OpenFault, Receipt,
     Settings, StepFault, Store, SwapAnswer, TakeFault,
 };
+pub use counts::Counts;
 pub use ledger_reads::{LedgerRead, LedgerReadAnswer};
 pub use readers::{Readers, Reading};
 pub use recorded::drive_recorded;

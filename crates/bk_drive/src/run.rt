@@ -15,6 +15,7 @@ ghost use Rattle.bk_drive.specs.Failing.{IsDiskFault, AnswerReportsFailure, None
 ghost use Rattle.bk_drive.specs.Frame.{SlotsFrame, CachesFrame, FailureCountByAnswer};
 ghost use Rattle.bk_store.specs.Frame.{CoreUnchanged};
 
+use crate::counts::count;
 use crate::ledger_reads::read_ledgers;
 use crate::recorder::RecordsNothing;
 use crate::taking::{fetch_by, release, take};
@@ -145,6 +146,7 @@ pub(crate) fn turn<D: LogDisk>(
         Step::Delete(ledger) => Answer::Delete(store.delete(*ledger)),
         Step::Fence(ledger) => Answer::Fence(store.fence(*ledger)),
         Step::Read(read) => Answer::Read(read_ledgers(store, *read)),
+        Step::Stats => Answer::Stats(count(store)),
     }
 }
 

@@ -1,6 +1,6 @@
 //! Steps and their answers.
 
-use crate::{LedgerRead, LedgerReadAnswer};
+use crate::{Counts, LedgerRead, LedgerReadAnswer};
 use bk_collect::{CloseAnswer, CollectFault, RemoveAnswer, RetireAnswer};
 use bk_compact::{
     BeginAnswer, CopyAnswer, EndAnswer, FinishAnswer, GiveUpAnswer, Kind, SwitchAnswer,
@@ -66,6 +66,8 @@ pub enum Step {
     Fence(u64),
     /// Reads by ledger.
     Read(LedgerRead),
+    /// Counts what is cached and what is durable.
+    Stats,
 }
 
 /// Answer of a take.
@@ -134,6 +136,7 @@ pub enum Answer {
     Finish(FinishAnswer),
     GiveUp(GiveUpAnswer),
     Read(LedgerReadAnswer),
+    Stats(Counts),
     /// The step was not performed, since what must be durable before it could not be recorded. Only
     /// `drive_recorded` gives this answer.
     Unrecorded,

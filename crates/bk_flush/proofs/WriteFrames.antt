@@ -7,6 +7,7 @@ use Rattle.bk_store.specs.State.{State}
 use Rattle.bk_store.specs.Primitives.{EndFlushTransition}
 use Rattle.bk_store.specs.declared.log.LogState.TheVariants.{Writing}
 use Rattle.bk_store.specs.Frame.{CoreUnchanged, SlotsUnchanged, FrameUnchanged}
+use Rattle.bk_store.specs.Fronts.{fronts_after_flush}
 use Rattle.bk_store.proofs.RemovedLogs.{gone_ruled}
 use Rattle.bk_store.proofs.FrameLemmas.{still_as, still_same, then, stays_then, slots_then, slots_same}
 use Rattle.bk_store.proofs.PrimitiveFrames.{make_still, write_still, seals_still, restarts_still}
@@ -83,7 +84,7 @@ shown_still Those s t shows = (
         (let e : Some shown.log ≡ None = sym shown.held ∙ is.0 in cc) in
         (shows.others log other ∙ is.0, subst (λ n. log < n) (sym (ap (λ (x : State). x.next) shows.left)) is.1);
   },
-  record { active = ap (λ (x : State). x.caches.active) shows.left; flush = ap (λ (x : State). x.caches.flush) shows.left },
+  record { active = ap (λ (x : State). x.caches.active) shows.left; flush = ap (λ (x : State). x.caches.flush) shows.left; fronts = ap (λ (x : State). x.fronts) shows.left },
   slots_same _ _ (ap (λ (x : State). x.keeper) shows.left),
 )
 
@@ -103,16 +104,28 @@ publishes_still {s = s} {t = t} done =
     named_still : (mid t : State) → FrameUnchanged mid (record mid { index = t.index; caches = record mid.caches { recent = t.caches.recent } })
     named_still mid t = (
       record { settings = refl; ledgers = refl; gone = λ log is. is },
-      record { active = refl; flush = refl },
+      record { active = refl; flush = refl; fronts = refl },
       slots_same _ _ refl,
     )
 
--- the end of a flush empties its cache
-ends_stays : (s t : State) → EndFlushTransition s t → CoreUnchanged s t × ((t.caches.active ≡ s.caches.active) × (t.caches.flush ≡ None)) × SlotsUnchanged s.keeper t.keeper
+-- the end of a flush empties its cache and raises the durable front
+abbrev EndStays : State → State → Type 0
+EndStays s t = CoreUnchanged s t × ((t.caches.active ≡ s.caches.active) × (t.caches.flush ≡ None) × (t.fronts ≡ fronts_after_flush s.fronts))
+    × SlotsUnchanged s.keeper t.keeper
+
+ends_stays : (s t : State) → EndFlushTransition s t → EndStays s t
 ends_stays s t ends =
-    let after : State = record s { logs = t.logs; places = finite.empty; caches = record s.caches { flush = None } } in
-    subst (λ (x : State). CoreUnchanged s x × ((x.caches.active ≡ s.caches.active) × (x.caches.flush ≡ None)) × SlotsUnchanged s.keeper x.keeper) (sym ends.left)
-    (record { settings = refl; ledgers = refl; gone = gone_ruled s after state_after_flush ends.logs refl }, (refl, refl), slots_same s.keeper after.keeper refl)
+    let after : State = record s {
+      logs = t.logs;
+      places = finite.empty;
+      caches = record s.caches { flush = None };
+      fronts = fronts_after_flush s.fronts;
+    } in
+    subst (EndStays s) (sym ends.left) (
+      record { settings = refl; ledgers = refl; gone = gone_ruled s after state_after_flush ends.logs refl },
+      (refl, refl, refl),
+      slots_same s.keeper after.keeper refl,
+    )
 
 -- the frame condition of a publish, by its result
 abbrev pub PublishStays : State → Result PublishAnswer StepFault → State → Type 0
@@ -131,8 +144,11 @@ publish_stays s t (Ok publishes.NoFlush) turn = still_same s t turn.1
 publish_stays s t (Ok publishes.NotAllWritten) turn = still_same s t turn.1.2
 publish_stays s t (Ok (publishes.Published n)) turn =
     let still = publishes_still turn.2.1 in
-    let ended = ends_stays turn.2.0 t turn.2.2 in
-    (stays_then still.0 ended.0, (ended.1.0 ∙ still.1.active, ended.1.1), slots_then still.2 ended.2)
+    let ended = ends_stays turn.2.0 t turn.2.2 in (
+      stays_then still.0 ended.0,
+      (ended.1.0 ∙ still.1.active, ended.1.1, ended.1.2 ∙ ap fronts_after_flush still.1.fronts),
+      slots_then still.2 ended.2,
+    )
 publish_stays s t (Err step_faults.Disk) turn = fails_showing_still turn.1
 publish_stays s t (Err (step_faults.Memory done)) turn = elim turn.1 [
   | inl unshown ↦ stops_still unshown.1

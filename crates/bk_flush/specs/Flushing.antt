@@ -20,6 +20,7 @@ use Rattle.bk_store.specs.declared.answer.Appended.{Appended}
 use Rattle.bk_store.specs.declared.log.LogState.TheVariants.{Writing, Filled, Readable}
 use Rattle.bk_store.specs.declared.answer.MakeFault.{MakeFault}
 use Rattle.bk_store.specs.Frame.{CachesUnchanged}
+use Rattle.bk_store.specs.Fronts.{fronts_after_flush}
 use Rattle.bk_store.specs.Faults.{step_fault_of, step_fault_of_make}
 use Rattle.bk_flush.specs.declared.answer.WriteAnswer.{WriteAnswer}
 use Rattle.bk_flush.specs.declared.answer.WriteAnswer.TheVariants as writes
@@ -224,9 +225,10 @@ PublishTransition s (Err step_faults.Odd) t = IsWritten s × (s.honest ≡ false
 PublishTransition s (Err step_faults.LogsFull) t = ⊥
 PublishTransition s (Err step_faults.NoMoreIds) t = ⊥
 
--- `Published` empties the flushing cache; every other result leaves the write caches unchanged.
+-- `Published` empties the flushing cache, whose entries are durable from then on; every other result
+-- leaves the write caches and the fronts unchanged.
 abbrev pub PublishCachesFrame : State → Result PublishAnswer StepFault → State → Type 0
-PublishCachesFrame s (Ok (publishes.Published n)) t = (t.caches.active ≡ s.caches.active) × (t.caches.flush ≡ None)
+PublishCachesFrame s (Ok (publishes.Published n)) t = (t.caches.active ≡ s.caches.active) × (t.caches.flush ≡ None) × (t.fronts ≡ fronts_after_flush s.fronts)
 PublishCachesFrame s _ t = CachesUnchanged s t
 
 -- ---- rolling

@@ -20,7 +20,8 @@ use bk_store::{StepFault, Store};
 ///
 /// Syncs each log that has a place of the flush once, by rising id, and publishes its whole file.
 /// Then adds each entry to the index, in key order, and remembers it as a recent entry. From then
-/// on the entries are read from their logs.
+/// on the entries are read from their logs, and they are durable: the durable front of the store
+/// becomes the number of marks at the swap that began the flush.
 ///
 /// # Errors
 ///

@@ -17,8 +17,9 @@ use crate::ready::next_log;
 use bk_disk::LogDisk;
 use bk_store::{Appended, StepFault, Store, SwapAnswer};
 
-/// Begins a flush: makes the active cache the flushing cache. Does nothing if a flush is running or
-/// the active cache is empty.
+/// Begins a flush: makes the active cache the flushing cache, and notes the number of marks as the
+/// swapped front. If a flush is running, nothing changes. If no flush is running and the active cache
+/// is empty, all marks are durable, and both fronts become their number.
 pub fn swap<D: LogDisk>(store: &mut Store<D>) -> SwapAnswer
     ensures transition { SwapTransition store.old result store.new }
     ensures frame { CoreUnchanged store.old store.new × SlotsUnchanged store.old.keeper store.new.keeper

@@ -46,8 +46,8 @@ refined s t payload added kept honest turn =
     subst (λ x. Refined x t payload added) kept.seen (
     let x = kept.parts.state in
     let contents = kept.keeps.promises (subst (λ y. IsTrue y.honest) (sym kept.seen) honest) in
-    let p : AbstractState = record { map = contents.map.carried; ledgers = x.ledgers; active = x.caches.active; flush = x.caches.flush } in
-    let old = agrees_of x p contents.map.carries refl refl refl in
+    let p : AbstractState = record { map = contents.map.carried; ledgers = x.ledgers; active = x.caches.active; flush = x.caches.flush; fronts = x.fronts } in
+    let old = agrees_of x p contents.map.carries refl refl refl refl in
     let done = plain_add kept.parts kept.keeps contents p old t Ordinary payload (Ok added) (subst (λ y. AddTransition y Ordinary payload (Ok added) t) (sym kept.seen) turn) in
     record { before = p; after = done.0; old = old; new = done.2; step = done.1 })
 

@@ -10,7 +10,7 @@ use Rattle.bk_cache.specs.declared.swap.Swap.{Swap}
 use Rattle.bk_cache.specs.declared.swap.Swap.TheVariants.{Running, Nothing, Swapped}
 use Rattle.bk_store.specs.State.{State}
 use Rattle.bk_store.specs.Contents.{PreservesContents, SameContents, contents_at}
-use Rattle.bk_store.specs.Transitions.{SwapTransition}
+use Rattle.bk_store.specs.Transitions.{SwapTransition, swapped_fronts}
 use Rattle.bk_store.proofs.SameContents.{means_same}
 use Rattle.bk_import.specs.Importing.{IsFlushed}
 
@@ -30,7 +30,7 @@ only_flushing : (flush : Payloads) (key : EntryKey) → written finite.empty (So
 only_flushing flush key = ap (λ o. option_or o (finite.get flush key)) (finite.get-empty {X = List ℕ} key_cmp key)
 
 swapped_means : (s t : State) → s.caches.flush ≡ None
-    → t ≡ record s { caches = record s.caches { active = finite.empty; flush = Some s.caches.active } } → SameContents s t
+    → t ≡ record s { caches = record s.caches { active = finite.empty; flush = Some s.caches.active }; fronts = t.fronts } → SameContents s t
 swapped_means s t none is key =
     ap (λ x. contents_at x key) is
     ∙ ap (λ o. cond (set.contains s.ledgers.dead key.ledger) None (option_or o (finite.get (scan_of s.files) key)))
@@ -39,8 +39,12 @@ swapped_means s t none is key =
 -- a swap moves the entries from one write cache to the other
 pub swap_preserves : (s t : State) (answer : Swap) → SwapTransition s answer t → PreservesContents s t
 swap_preserves s t Running turn = record { honest = ap (λ (x : State). x.honest) turn.1; meaning = λ _. means_same s t turn.1 }
-swap_preserves s t Nothing turn = record { honest = ap (λ (x : State). x.honest) turn.2; meaning = λ _. means_same s t turn.2 }
-swap_preserves s t (Swapped n) turn = record { honest = ap (λ (x : State). x.honest) turn.3; meaning = λ _. swapped_means s t turn.0 turn.3 }
+swap_preserves s t Nothing turn = record { honest = ap (λ (x : State). x.honest) turn.2; meaning = λ _ key. ap (λ (x : State). contents_at x key) turn.2 }
+swap_preserves s t (Swapped n) turn = record { honest = ap (λ (x : State). x.honest) turn.3; meaning = λ _. swapped_means s t turn.0 (left_as turn.3) }
+  where
+    left_as : t ≡ record s { caches = record s.caches { active = finite.empty; flush = Some s.caches.active }; fronts = swapped_fronts (Swapped n) s }
+        → t ≡ record s { caches = record s.caches { active = finite.empty; flush = Some s.caches.active }; fronts = t.fronts }
+    left_as is = is ∙ ap (λ f. record s { caches = record s.caches { active = finite.empty; flush = Some s.caches.active }; fronts = f }) (sym (ap (λ (x : State). x.fronts) is))
 
 -- Empty caches have nothing.
 pub is_flushed : (s : State) → s.caches.active ≡ finite.empty → s.caches.flush ≡ None → IsFlushed s

@@ -14,3 +14,7 @@ pub mod Nearby
 pub mod OrderedPages
 pub mod OrderedKeys
 pub mod CutPages
+pub mod PackedPairs
+pub mod PackedSearch
+pub mod PackedPlaces
+pub mod Halves

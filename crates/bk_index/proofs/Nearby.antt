@@ -1,5 +1,5 @@
 -- A page that has a key is the page for the key.
-use Rattle.std.proofs.Common.{◌≡◌, ℕ, zero, suc, List, [], ◌∷◌, ◌++◌, get_or, subst}
+use Rattle.std.proofs.Common.{◌≡◌, ℕ, zero, suc, ◌<◌, List, [], ◌∷◌, ◌++◌, length, get_or, subst}
 use Rattle.std.specs.Bool.{IsTrue}
 use Rattle.std.specs.declared.cmp.Ordering.TheVariants.{Less}
 use Rattle.std.specs.List.{AllByRecursion}
@@ -8,6 +8,7 @@ use Rattle.bk_record.specs.Key.{EntryKey, key_cmp}
 use Rattle.bk_record.proofs.SortedPairs.{Some-same}
 use Rattle.bk_index.specs.Sorted.{IsAt}
 use Rattle.bk_index.specs.Pages.{all_pairs, IsHome}
+use Rattle.bk_index.proofs.HomePages.{read_page}
 use Rattle.bk_index.proofs.CutPairs.{each_front, each_back, head_below, sorted_back}
 
 module _ {X : Type 0} (key : EntryKey) where
@@ -52,3 +53,9 @@ module _ {X : Type 0} (key : EntryKey) where
     smaller_before page pages at place sorted here,
     home_held pages at place (sorted_back key_cmp page (all_pairs pages) sorted) here,
   )
+
+  -- the same for a page that was read
+  pub home_here : (pages : List (List (EntryKey × X))) (at : ℕ) → at < length pages → (held : List (EntryKey × X)) → held ≡ get_or pages at held → (place : ℕ)
+      → IsTrue (is_sorted key_cmp (all_pairs pages)) → IsAt held key place → IsHome key pages at
+  home_here pages at within held read place sorted here =
+      home_held pages at place sorted (subst (λ (p : List (EntryKey × X)). IsAt p key place) (read_page pages at within held read) here)

@@ -1,5 +1,5 @@
 -- Places of keys in a page: look-up, overwrite and insertion there.
-use Rattle.std.proofs.Common.{◌≡◌, ℕ, zero, suc, ◌-◌, ◌≤◌, List, [], ◌∷◌, ◌++◌, length, get_or, set, take, drop, Some, None, refl, sym, ap, ◌∙◌, arith}
+use Rattle.std.proofs.Common.{◌≡◌, ℕ, zero, suc, ◌-◌, ◌≤◌, List, [], ◌∷◌, ◌++◌, length, get_or, set, take, drop, Some, None, Result, Ok, Err, IfErr, OnErr, refl, sym, ap, ◌∙◌, arith}
 use Rattle.std.proofs.Common.{length-take, take-append-drop}
 use Rattle.std.specs.Bool.{IsTrue}
 use Rattle.std.specs.List.{insert}
@@ -13,6 +13,11 @@ use Rattle.bk_record.proofs.SortedPairs.{Some-same, sorted_front, find_at, find_
 use Rattle.bk_index.proofs.CutPairs.{sorted_back}
 use Rattle.bk_index.proofs.KeyPlaces.{read_there, named}
 
+-- a fact that holds also holds where there is an error
+pub on_err : {T E : Type 0} (r : Result T E) {P : Type 0} → P → OnErr r P
+on_err (Ok x) p = tt
+on_err (Err e) p = p
+
 -- overwriting the value of a key does not change the first key
 pub first_put_held : {X : Type 0} (pairs : List (EntryKey × X)) (key : EntryKey) (at : ℕ) → IsAt pairs key at → (v : X) → first_key (set pairs at (key, v))
     ≡ first_key pairs
@@ -25,7 +30,7 @@ module _ {X : Type 0} (pairs : List (EntryKey × X)) (sorted : IsTrue (is_sorted
   is_sorted_put_page v = is_sorted_put key_cmp_total key v pairs sorted
 
   -- two parts that together are sorted pairs are each sorted
-  is_sorted_parts : (v : X) (front back : List (EntryKey × X)) → front ++ back ≡ put key_cmp key v pairs
+  pub is_sorted_parts : (v : X) (front back : List (EntryKey × X)) → front ++ back ≡ put key_cmp key v pairs
       → IsTrue (is_sorted key_cmp front) × IsTrue (is_sorted key_cmp back)
   is_sorted_parts v front back is =
       let all : IsTrue (is_sorted key_cmp (front ++ back)) = rw is (is_sorted_put_page v) in
@@ -66,3 +71,8 @@ module _ {X : Type 0} (pairs : List (EntryKey × X)) (sorted : IsTrue (is_sorted
     pub sorted_upper : (v : X) (cut : ℕ) → cut ≤ at → cut ≤ length pairs
         → IsTrue (is_sorted key_cmp (take cut pairs)) × IsTrue (is_sorted key_cmp (insert (drop cut pairs) (at - cut) (key, v)))
     sorted_upper v cut upper within = is_sorted_parts v (take cut pairs) (insert (drop cut pairs) (at - cut) (key, v)) (put_upper v cut upper within)
+
+  -- a search that ends at a gap shows that the key is not there
+  pub searched_none : (r : Result ℕ ℕ) → IfErr r (IsGapFor pairs key) → IfErr r (λ _. find key_cmp key pairs ≡ None)
+  searched_none (Ok at) gap = tt
+  searched_none (Err at) gap = find_absent at gap

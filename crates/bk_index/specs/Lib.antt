@@ -1,3 +1,5 @@
 pub mod Keyed
 pub mod Sorted
 pub mod Pages
+pub mod Packed
+pub mod Forms

@@ -6,6 +6,7 @@ ghost use Rattle.std.specs.FinMap as map;
 ghost use Rattle.bk_index.specs.Keyed.{without_ledger, ledger_count, log_count};
 ghost use Rattle.bk_index.specs.Pages.{all_pairs, ArePageLens};
 
+use crate::page::Part;
 use crate::{Near, Pages, Walk};
 use bk_record::{Key, Location};
 use std::alloc::{AllocError, Global};
@@ -126,7 +127,7 @@ impl Index {
     pub fn walk(&self) -> Walk<'_>
         ensures { result ≡ map.entries self.now }
     {
-        Walk::over(&[], self.pages.list(), &[])
+        Walk::over(Part::empty(), self.pages.list(), Part::empty())
     }
 
     /// Returns an iterator over the keys of one ledger and their locations, by entry: at most 2^63.

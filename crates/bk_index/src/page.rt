@@ -1,61 +1,75 @@
 //! One page of the index: pairs of a key and a location, sorted by key, each key once.
 
-ghost use Rattle.std.specs.Prelude.{◌≡◌, ◌↔◌, ◌<◌, ◌+◌, [], ◌∷◌, ◌++◌, length, not, ◌==◌, count_by, filter, Some, IsTrue, IfOk, IfErr, OnOk, OnErr};
+ghost use Rattle.std.specs.Prelude.{◌≡◌, ◌↔◌, ◌<◌, ◌+◌, ◌-◌, ◌^◌, [], ◌∷◌, ◌++◌, length, not, ◌==◌, count_by, filter, slice_get, option_map, nat_le};
+ghost use Rattle.std.specs.Prelude.{Some, None, IsTrue, IsSome, IfSome, IfOk, IfErr, OnOk, OnErr};
 ghost use Rattle.std.specs.Bool.{OnTrue, OnFalse};
-ghost use Rattle.std.specs.FinMap.{find, put, is_sorted};
-ghost use Rattle.bk_record.specs.Key.{key_cmp};
+ghost use Rattle.std.specs.Ordering.{is_lt};
+ghost use Rattle.std.specs.FinMap.{find, put};
+ghost use Rattle.bk_record.specs.Key.{EntryKey, key_cmp};
 ghost use Rattle.bk_index.specs.Sorted.{IsAt, IsGapFor};
 ghost use Rattle.bk_index.specs.Pages.{first_key};
 
 use bk_record::{Key, Location};
 use std::alloc::{AllocError, Global};
-use std::cmp::Ordering;
 use std::marker::Model;
 
-mod in_order;
+mod edits;
+mod halves;
+mod offset;
+mod packed;
+mod part;
+mod plain;
 
-pub(crate) use in_order::is_before;
+pub(crate) use halves::MOST;
+use packed::Packed;
+pub(crate) use part::Part;
+use plain::Plain;
+pub(crate) use plain::is_before;
 
 /// Pairs of a key and a location, sorted by key.
+///
+/// A page is packed until it gets a key of another ledger, or one whose entry id differs in the
+/// upper 32 bits.
 #[derive(Debug, Drop)]
 pub(crate) struct Page {
-    pairs: Vec<(Key, Location)>,
+    form: Box<Form>,
+}
+
+#[derive(Debug, Drop)]
+enum Form {
+    Packed(Packed),
+    Plain(Plain),
 }
 
 impl Model for Page {
-    ghost use Rattle.std.specs.Prelude.{IsTrue, List};
-    ghost use Rattle.std.specs.FinMap.{is_sorted};
-    ghost use Rattle.bk_record.specs.Key.{EntryKey, key_cmp};
+    ghost use Rattle.std.specs.Prelude.{List};
+    ghost use Rattle.bk_record.specs.Key.{EntryKey};
     ghost use Rattle.bk_record.specs.Location.{Place};
 
     ghost Value = { List (EntryKey × Place) };
 
-    ghost view = { λ page. page.pairs.items };
+    ghost use Rattle.bk_index.specs.Forms.{form_pairs};
 
-    ghost invariant = { λ page. IsTrue (is_sorted key_cmp page.pairs.items) };
+    ghost view = { λ page. form_pairs page.form.value };
 }
 
 impl Page {
-    /// Greatest number of pairs of a page.
-    pub(crate) const MOST: usize = 256;
-
-    /// Number of pairs that stay in a page that is split.
-    pub(crate) const LOWER: usize = 128;
-
     /// Returns a page of one pair.
     pub(crate) fn of_pair(alloc: Global, key: Key, location: Location) -> Result<Page, AllocError>
         ensures { IfOk result (λ page. page ≡ (key, location) ∷ []) }
     {
-        let mut pairs = Vec::new(alloc);
-        pairs.push((key, location))?;
-        Ok(Page { pairs })
+        let packed = Packed::of_pair(alloc, key, location)?;
+        Page::of_form(alloc, Form::Packed(packed))
     }
 
     /// Returns the number of pairs.
     pub(crate) fn len(&self) -> usize
         ensures { result ≡ length self.now }
     {
-        self.pairs.len()
+        match &*self.form {
+            Form::Packed(packed) => packed.len(),
+            Form::Plain(plain) => plain.len(),
+        }
     }
 
     /// Returns the key of the first pair.
@@ -63,78 +77,99 @@ impl Page {
         requires { 0 < length self.now }
         ensures { result ≡ first_key self.now }
     {
-        self.pairs[0].0
+        match &*self.form {
+            Form::Packed(packed) => packed.first(),
+            Form::Plain(plain) => plain.first(),
+        }
     }
 
     /// Returns the pairs, sorted by key.
-    pub(crate) fn pairs(&self) -> &[(Key, Location)]
-        ensures { result.now ≡ self.now }
+    pub(crate) fn pairs(&self) -> Part<'_>
+        ensures { result ≡ self.now }
     {
-        &self.pairs
+        match &*self.form {
+            Form::Packed(packed) => packed.pairs(),
+            Form::Plain(plain) => plain.pairs(),
+        }
     }
 
     /// Returns the pairs of a ledger, which are adjacent.
-    pub(crate) fn of_ledger(&self, ledger: u64) -> &[(Key, Location)]
-        ensures { result.now ≡ filter (λ pair. pair.0.ledger == ledger) self.now }
+    pub(crate) fn of_ledger(&self, ledger: u64) -> Part<'_>
+        ensures { result ≡ filter (λ pair. pair.0.ledger == ledger) self.now }
     {
-        let from = self.pairs.partition_point(|(key, _)| key.ledger() < ledger);
-        let behind = &self.pairs[from..];
-        &behind[..behind.partition_point(|(key, _)| key.ledger() <= ledger)]
+        match &*self.form {
+            Form::Packed(packed) => packed.of_ledger(ledger),
+            Form::Plain(plain) => plain.of_ledger(ledger),
+        }
     }
 
-    /// Returns the place of a key, or the place where it would be inserted.
+    /// Returns the least key that is not before this ledger and entry.
+    pub(crate) fn first_from(&self, ledger: u64, entry: u64) -> Option<Key>
+        ensures { result ≡ option_map (λ pair. pair.0)
+            (slice_get (filter (λ pair. not (is_lt (key_cmp pair.0 (record { ledger = ledger; entry = entry })))) self.now) 0) }
+    {
+        match &*self.form {
+            Form::Packed(packed) => packed.first_from(ledger, entry),
+            Form::Plain(plain) => plain.first_from(ledger, entry),
+        }
+    }
+
+    /// Returns the greatest key whose ledger is at most this one.
+    pub(crate) fn last_upto(&self, ledger: u64) -> Option<Key>
+        ensures { let upto = filter (λ pair. nat_le pair.0.ledger ledger) self.now in
+            result ≡ option_map (λ pair. pair.0) (slice_get upto (length upto - 1)) }
+    {
+        match &*self.form {
+            Form::Packed(packed) => packed.last_upto(ledger),
+            Form::Plain(plain) => plain.last_upto(ledger),
+        }
+    }
+
+    // Returns the place of a key, or the place where it would be inserted.
     #[inline]
-    pub(crate) fn place_of(&self, key: &Key) -> Result<usize, usize>
+    fn place_of(&self, key: &Key) -> Result<usize, usize>
         ensures found { IfOk result (IsAt self.now key.now) }
-        ensures absent { IfErr result (IsGapFor self.now key.now) }
+        ensures none { IfErr result (λ _. find key_cmp key.now self.now ≡ None) }
     {
-        self.pairs.binary_search_by_key(key, |&(held, _)| held)
+        match &*self.form {
+            Form::Packed(packed) => packed.place_of(key),
+            Form::Plain(plain) => plain.place_of(key),
+        }
     }
 
-    /// Same as `place_of`, for a key to be inserted. Keys mostly rise, so it tries the end first.
+    /// Returns the place of a key, or the place where it would be inserted. Keys mostly rise, so it
+    /// tries the end first.
     pub(crate) fn place_for(&self, key: &Key) -> Result<usize, usize>
         ensures found { IfOk result (IsAt self.now key.now) }
         ensures absent { IfErr result (IsGapFor self.now key.now) }
     {
-        let count = self.pairs.len();
-        if count > 0 && self.pairs[count - 1].0 < *key {
-            return Err(count);
+        match &*self.form {
+            Form::Packed(packed) => packed.place_for(key),
+            Form::Plain(plain) => plain.place_for(key),
         }
-        self.place_of(key)
     }
 
     /// Whether the pair at this place has the key.
+    #[inline]
     pub(crate) fn has_at(&self, key: &Key, place: usize) -> bool
         ensures { IsTrue result → IsAt self.now key.now place }
     {
-        let Some(pair) = self.pairs.get(place) else {
-            return false;
-        };
-        matches!(pair.0.cmp(key), Ordering::Equal)
-    }
-
-    /// Same as `place_of`, but tries the place `near` first.
-    pub(crate) fn place_near(&self, key: &Key, near: usize) -> Result<usize, usize>
-        ensures found { IfOk result (IsAt self.now key.now) }
-        ensures absent { IfErr result (IsGapFor self.now key.now) }
-    {
-        if self.has_at(key, near) {
-            return Ok(near);
+        match &*self.form {
+            Form::Packed(packed) => packed.has_at(key, place),
+            Form::Plain(plain) => plain.has_at(key, place),
         }
-        self.place_of(key)
     }
 
-    /// Same as `get`, but tries the place `near` first, and sets it to the place after the key.
-    pub(crate) fn get_near(&self, key: &Key, near: &mut usize) -> Option<Location>
-        ensures { result ≡ find key_cmp key.now self.now }
+    // Returns the location of the key at a place.
+    #[inline]
+    fn location(&self, place: usize) -> Location
+        requires { place < length self.now }
+        ensures value { (key : EntryKey) → IsAt self.now key place → find key_cmp key self.now ≡ Some result }
+        ensures next { place + 1 < 2 ^ 64 }
     {
-        match self.place_near(key, *near) {
-            Ok(place) => {
-                let location = self.pairs[place].1;
-                *near = place + 1;
-                Some(location)
-            }
-            Err(_) => None,
+        match &*self.form {
+            Form::Packed(packed) => packed.location(place),
+            Form::Plain(plain) => plain.location(place),
         }
     }
 
@@ -144,112 +179,45 @@ impl Page {
         ensures { result ≡ find key_cmp key.now self.now }
     {
         match self.place_of(key) {
-            Ok(place) => Some(self.pairs[place].1),
+            Ok(place) => Some(self.location(place)),
             Err(_) => None,
         }
     }
 
-    /// Sets the location of the key at a place and returns the one before.
-    pub(crate) fn replace(&mut self, place: usize, key: Key, to: Location) -> Location
-        requires { IsAt self.old key place }
-        ensures replaced { self.new ≡ put key_cmp key to self.old }
-        ensures len { length self.new ≡ length self.old }
-        ensures first { first_key self.new ≡ first_key self.old }
-        ensures before { find key_cmp key self.old ≡ Some result }
+    /// Same as `get`, and sets `near` to the place after the key.
+    pub(crate) fn get_near(&self, key: &Key, near: &mut usize) -> Option<Location>
+        ensures { result ≡ find key_cmp key.now self.now }
     {
-        let before = self.pairs[place].1;
-        self.pairs[place] = (key, to);
-        before
-    }
-
-    /// Changes the location of a key if it is `from`, and returns whether it was. Tries the place
-    /// `near` first, and then sets it to the place after the key.
-    pub(crate) fn replace_if(
-        &mut self,
-        key: &Key,
-        from: Location,
-        to: Location,
-        near: &mut usize,
-    ) -> bool
-        ensures condition { IsTrue result ↔ (find key_cmp key.now self.old ≡ Some from) }
-        ensures replaced { OnTrue result (self.new ≡ put key_cmp key.now to self.old) }
-        ensures len { length self.new ≡ length self.old }
-        ensures first { first_key self.new ≡ first_key self.old }
-        ensures unchanged { OnFalse result (self.new ≡ self.old) }
-    {
-        match self.place_near(key, *near) {
-            Ok(place) if self.pairs[place].1 == from => {
-                self.pairs[place] = (*key, to);
+        match self.place_of(key) {
+            Ok(place) => {
+                let location = self.location(place);
                 *near = place + 1;
-                true
+                Some(location)
             }
-            _ => false,
+            Err(_) => None,
         }
     }
 
-    /// Inserts a new key at its place. If an allocation fails, the page is unchanged.
-    pub(crate) fn insert(
-        &mut self,
-        place: usize,
-        key: Key,
-        location: Location,
-    ) -> Result<(), AllocError>
-        requires { IsGapFor self.old key place }
-        ensures ok { OnOk result (self.new ≡ put key_cmp key location self.old) }
-        ensures len { OnOk result (length self.new ≡ length self.old + 1) }
-        ensures err { OnErr result (self.new ≡ self.old) }
+    /// Returns the location of a key if it is at this place; otherwise `None`.
+    #[inline]
+    pub(crate) fn get_at(&self, key: &Key, place: usize) -> Option<Location>
+        ensures here { IsSome result → IsAt self.now key.now place }
+        ensures value { IfSome result (λ location. find key_cmp key.now self.now ≡ Some location) }
+        ensures next { IsSome result → place + 1 < 2 ^ 64 }
     {
-        self.pairs.insert(place, (key, location))?;
-        Ok(())
-    }
-
-    /// Inserts a new key at its place in a full page and splits the page: the first 128 pairs stay,
-    /// the other 129 are returned. If an allocation fails, the page is unchanged.
-    pub(crate) fn split(
-        &mut self,
-        place: usize,
-        key: Key,
-        location: Location,
-    ) -> Result<Page, AllocError>
-        requires gap { IsGapFor self.old key place }
-        requires full { length self.old ≡ 256 }
-        ensures ok { IfOk result (λ behind. self.new ++ behind ≡ put key_cmp key location self.old) }
-        ensures stay { OnOk result (length self.new ≡ 128) }
-        ensures behind { IfOk result (λ behind. length behind ≡ 129) }
-        ensures err { OnErr result (self.new ≡ self.old) }
-    {
-        let mut behind = Vec::with_capacity(*self.pairs.allocator(), Page::MOST)?;
-        if place < Page::LOWER {
-            behind.extend_from_slice(&self.pairs[Page::LOWER - 1..])?;
-            self.pairs.truncate(Page::LOWER - 1);
-            // Does not fail: removing the pairs left room.
-            self.pairs.insert(place, (key, location))?;
-            Ok(Page { pairs: behind })
-        } else {
-            behind.extend_from_slice(&self.pairs[Page::LOWER..])?;
-            behind.insert(place - Page::LOWER, (key, location))?;
-            self.pairs.truncate(Page::LOWER);
-            Ok(Page { pairs: behind })
+        if !self.has_at(key, place) {
+            return None;
         }
-    }
-
-    /// Removes the keys of a ledger and returns their number.
-    pub(crate) fn drop_ledger(&mut self, ledger: u64) -> usize
-        ensures left { self.new ≡ filter (λ pair. not (pair.0.ledger == ledger)) self.old }
-        ensures count { length self.new + result ≡ length self.old }
-    {
-        let before = self.pairs.len();
-        self.pairs.retain(|(key, _)| key.ledger() != ledger);
-        before - self.pairs.len()
+        Some(self.location(place))
     }
 
     /// Returns the number of keys whose location is in a log.
     pub(crate) fn count_in(&self, log: u32) -> usize
         ensures { result ≡ count_by (λ pair. pair.1.log == log) self.now }
     {
-        self.pairs
-            .iter()
-            .filter(|(_, location)| location.log() == log)
-            .count()
+        match &*self.form {
+            Form::Packed(packed) => packed.count_in(log),
+            Form::Plain(plain) => plain.count_in(log),
+        }
     }
 }

@@ -2,7 +2,7 @@
 //! covers the fences, then one page.
 
 ghost use Rattle.std.specs.Prelude.{◌≡◌, ◌↔◌, ◌<◌, ◌≤◌, ◌+◌, ◌^◌, [], ◌∷◌, ◌++◌, length, take, drop, not, ◌==◌, count_by, filter, slice_get};
-ghost use Rattle.std.specs.Prelude.{slice_index_or, option_map, sum_by, All, Some, IsTrue, IsSome, IsOk, IfOk, IfSome, OnOk, OnErr};
+ghost use Rattle.std.specs.Prelude.{slice_index_or, option_map, sum_by, All, Some, None, IsTrue, IsSome, IsOk, IfOk, IfSome, IfNone, OnOk, OnErr};
 ghost use Rattle.std.specs.Bool.{OnTrue, OnFalse};
 ghost use Rattle.std.specs.FinMap.{find, put, is_sorted};
 ghost use Rattle.bk_record.specs.Key.{key_cmp};
@@ -10,7 +10,7 @@ ghost use Rattle.bk_index.specs.Sorted.{IsAt, IsGapFor};
 ghost use Rattle.bk_index.specs.Pages.{all_pairs, IsHome, HoldsLedger};
 
 use crate::Near;
-use crate::page::Page;
+use crate::page::{MOST, Page};
 use bk_record::{Key, Location};
 use std::alloc::{AllocError, Global};
 use std::marker::Model;
@@ -97,18 +97,16 @@ impl Pages {
         self.home(key)
     }
 
-    // Same as `home`, but tries the place `near` first.
-    fn home_near(&self, key: &Key, near: &Near) -> usize
+    // Returns the location of a key if it is at the place `near`; otherwise `None`.
+    #[inline]
+    fn get_here(&self, key: &Key, near: &Near) -> Option<Location>
         requires { IsTrue (is_sorted key_cmp (all_pairs self.now)) }
-        ensures home { IsHome key.now self.now result }
-        ensures bound { 0 < length self.now → result < length self.now }
+        ensures value { IfSome result (λ location. find key_cmp key.now (all_pairs self.now) ≡ Some location) }
+        ensures next { IsSome result → near.now.place + 1 < 2 ^ 64 }
     {
-        if let Some(page) = self.list.get(near.page) {
-            if page.has_at(key, near.place) {
-                return near.page;
-            }
-        }
-        self.home(key)
+        let page = self.list.get(near.page)?;
+        let location = page.get_at(key, near.place)?;
+        Some(location)
     }
 
     /// Same as `get`, but tries the place `near` first, and sets it to the place after the key.
@@ -116,7 +114,11 @@ impl Pages {
         requires { IsTrue (is_sorted key_cmp (all_pairs self.now)) }
         ensures { result ≡ find key_cmp key.now (all_pairs self.now) }
     {
-        let at = self.home_near(key, near);
+        if let Some(location) = self.get_here(key, near) {
+            near.place += 1;
+            return Some(location);
+        }
+        let at = self.home(key);
         near.page = at;
         let page = self.list.get(at)?;
         page.get_near(key, &mut near.place)
@@ -151,6 +153,48 @@ impl Pages {
             return Ok(None);
         }
         let at = self.home_for(&key);
+        if self.push(at, &key, location)? {
+            return Ok(None);
+        }
+        self.insert_at(at, key, location)
+    }
+
+    // Adds a key after all others of its page, and returns whether it did: mostly so if keys rise.
+    // Otherwise nothing changes.
+    #[inline]
+    fn push(&mut self, at: usize, key: &Key, location: Location) -> Result<bool, AllocError>
+        requires within { at < length self.old }
+        requires home { IsHome key.now self.old at }
+        ensures pushed { IfOk result (λ pushed. OnTrue pushed (all_pairs self.new ≡ put key_cmp key.now location (all_pairs self.old))) }
+        ensures bound { IfOk result (λ pushed. OnTrue pushed (length (all_pairs self.new) < 2 ^ 64)) }
+        ensures absent { IfOk result (λ pushed. OnTrue pushed (find key_cmp key.now (all_pairs self.old) ≡ None)) }
+        ensures failed { OnErr result (find key_cmp key.now (all_pairs self.old) ≡ None) }
+        ensures unchanged { IfOk result (λ pushed. OnFalse pushed (self.new ≡ self.old)) }
+        ensures err { OnErr result (self.new ≡ self.old) }
+    {
+        let page = &mut self.list[at];
+        if page.push(key, location)? {
+            return Ok(true);
+        }
+        Ok(false)
+    }
+
+    // Same as `insert`, in the page of the key.
+    fn insert_at(
+        &mut self,
+        at: usize,
+        key: Key,
+        location: Location,
+    ) -> Result<Option<Location>, AllocError>
+        requires within { at < length self.old }
+        requires home { IsHome key self.old at }
+        requires sorted { IsTrue (is_sorted key_cmp (all_pairs self.old)) }
+        ensures ok { OnOk result (all_pairs self.new ≡ put key_cmp key location (all_pairs self.old)) }
+        ensures before { IfOk result (λ before. before ≡ find key_cmp key (all_pairs self.old)) }
+        ensures err { OnErr result (self.new ≡ self.old) }
+        ensures bound { OnOk result (length (all_pairs self.new) < 2 ^ 64) }
+        ensures held { IsSome (find key_cmp key (all_pairs self.old)) → IsOk result }
+    {
         let page = &mut self.list[at];
         match page.place_for(&key) {
             Ok(place) => Ok(Some(page.replace(place, key, location))),
@@ -191,7 +235,7 @@ impl Pages {
         ensures err { OnErr result (self.new ≡ self.old) }
     {
         let page = &mut self.list[at];
-        if page.len() == Page::MOST {
+        if page.len() == MOST {
             return self.split(at, place, key, location);
         }
         page.insert(place, key, location)?;
@@ -220,8 +264,9 @@ impl Pages {
         }
         self.fences.reserve(1)?;
         self.list.reserve(1)?;
+        let alloc = *self.fences.allocator();
         let page = &mut self.list[at];
-        let behind = page.split(place, key, location)?;
+        let behind = page.split(alloc, place, key, location)?;
         self.fences[at] = page.first();
         // Does not fail: room for both was reserved.
         self.fences.insert(at + 1, behind.first())?;
@@ -244,13 +289,53 @@ impl Pages {
         ensures len { length (all_pairs self.new) ≡ length (all_pairs self.old) }
         ensures unchanged { OnFalse result (self.new ≡ self.old) }
     {
-        let at = self.home_near(key, near);
+        if let Some(moved) = self.replace_here(key, from, to, near) {
+            return moved;
+        }
+        self.replace_found(key, from, to, near)
+    }
+
+    // Same as `replace_if`, by a search.
+    fn replace_found(&mut self, key: &Key, from: Location, to: Location, near: &mut Near) -> bool
+        requires { IsTrue (is_sorted key_cmp (all_pairs self.old)) }
+        ensures condition { IsTrue result ↔ (find key_cmp key.now (all_pairs self.old) ≡ Some from) }
+        ensures replaced { OnTrue result (all_pairs self.new ≡ put key_cmp key.now to (all_pairs self.old)) }
+        ensures len { length (all_pairs self.new) ≡ length (all_pairs self.old) }
+        ensures unchanged { OnFalse result (self.new ≡ self.old) }
+    {
+        let at = self.home(key);
         if at >= self.list.len() {
             return false;
         }
         near.page = at;
         let page = &mut self.list[at];
         page.replace_if(key, from, to, &mut near.place)
+    }
+
+    // Same as `replace_if` for a key at the place `near`; `None` if the key is not there.
+    #[inline]
+    fn replace_here(
+        &mut self,
+        key: &Key,
+        from: Location,
+        to: Location,
+        near: &mut Near,
+    ) -> Option<bool>
+        requires { IsTrue (is_sorted key_cmp (all_pairs self.old)) }
+        ensures condition { IfSome result (λ moved. IsTrue moved ↔ (find key_cmp key.now (all_pairs self.old) ≡ Some from)) }
+        ensures replaced { IfSome result (λ moved. OnTrue moved (all_pairs self.new ≡ put key_cmp key.now to (all_pairs self.old))) }
+        ensures unchanged { IfSome result (λ moved. OnFalse moved (self.new ≡ self.old)) }
+        ensures none { IfNone result (self.new ≡ self.old) }
+        ensures len { length (all_pairs self.new) ≡ length (all_pairs self.old) }
+    {
+        let at = near.page;
+        if at >= self.list.len() {
+            return None;
+        }
+        let page = &mut self.list[at];
+        let moved = page.replace_at(near.place, key, from, to)?;
+        near.place += 1;
+        Some(moved)
     }
 
     /// Returns the number of keys whose location is in a log.

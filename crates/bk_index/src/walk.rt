@@ -5,7 +5,7 @@ ghost use Rattle.std.specs.Prelude.{◌≡◌, ◌<◌, ◌++◌, [], length, Al
 ghost use Rattle.std.specs.Iterator.{YieldsFirst, item_count};
 ghost use Rattle.bk_index.specs.Pages.{all_pairs};
 
-use crate::page::Page;
+use crate::page::{Page, Part};
 use bk_record::{Key, Location};
 use std::marker::Model;
 
@@ -13,9 +13,9 @@ use std::marker::Model;
 /// `Index::walk_ledger` return it.
 #[derive(Debug, Drop)]
 pub struct Walk<'a> {
-    page: &'a [(Key, Location)],
+    page: Part<'a>,
     pages: &'a [Page],
-    last: &'a [(Key, Location)],
+    last: Part<'a>,
 }
 
 impl<'a> Model for Walk<'a> {
@@ -26,20 +26,16 @@ impl<'a> Model for Walk<'a> {
 
     ghost Value = { List (EntryKey × Place) };
 
-    ghost view = { λ walk. walk.page.now ++ (all_pairs walk.pages.now ++ walk.last.now) };
+    ghost view = { λ walk. walk.page ++ (all_pairs walk.pages.now ++ walk.last) };
 
     ghost invariant = { λ walk. All (λ page. 0 < length page) walk.pages.now };
 }
 
 impl<'a> Walk<'a> {
     // Walk over pairs, then pages, none of which is empty, then further pairs.
-    pub(crate) fn over(
-        page: &'a [(Key, Location)],
-        pages: &'a [Page],
-        last: &'a [(Key, Location)],
-    ) -> Walk<'a>
+    pub(crate) fn over(page: Part<'a>, pages: &'a [Page], last: Part<'a>) -> Walk<'a>
         requires { All (λ page. 0 < length page) pages.now }
-        ensures { result ≡ page.now ++ (all_pairs pages.now ++ last.now) }
+        ensures { result ≡ page.entry ++ (all_pairs pages.now ++ last.entry) }
     {
         Walk { page, pages, last }
     }
@@ -52,19 +48,16 @@ impl Iterator for Walk<'_> {
 
     ghost remaining = { item_count (λ walk. walk) };
 
+    #[inline(always)]
     fn next(&mut self) -> Option<(Key, Location)> {
-        if let Some((first, rest)) = self.page.split_first() {
-            self.page = rest;
-            return Some(*first);
+        if let Some(pair) = self.page.next() {
+            return Some(pair);
         }
         if let Some((page, pages)) = self.pages.split_first() {
-            let (first, rest) = page.pairs().split_first()?;
-            self.page = rest;
+            self.page = page.pairs();
             self.pages = pages;
-            return Some(*first);
+            return self.page.next();
         }
-        let (first, rest) = self.last.split_first()?;
-        self.last = rest;
-        Some(*first)
+        self.last.next()
     }
 }

@@ -1,14 +1,16 @@
 -- Reading ahead: the bytes ready after a step, and the head of what is left.
-use Rattle.std.proofs.Common.{◌≡◌, ℕ, ◌+◌, ◌-◌, ◌≤◌, min, Bool, List, length, take, drop, IsTrue, Option, sym, ap, ◌∙◌, subst, arith, length-drop}
+use Rattle.std.proofs.Common.{◌≡◌, ℕ, ◌+◌, ◌-◌, ◌≤◌, min, Bool, List, length, take, drop, IsTrue, Option, Result, Ok, Err, IfOk, IfErr, sym, ap, ◌∙◌, subst, arith, length-drop}
 use Rattle.std.proofs.Math.Decide.{dec_le}
-use Rattle.std.proofs.lemmas.List.{drop-drop, drop-take, take-take, length-take-le, drop_all, take_all, length-take}
+use Rattle.std.proofs.lemmas.List.{drop-drop, drop-take, take-take, take-append-le, drop-append-le, length-take-le, drop_all, take_all, length-take}
 use Rattle.bk_disk.specs.Disk.{IsInView}
+use Rattle.bk_disk.specs.Blocks.{HasPrefix}
 use Rattle.bk_record.specs.Key.{EntryKey}
 use Rattle.bk_log.specs.declared.fault.ScanFault.{ScanFault}
 use Rattle.bk_log.specs.declared.fault.ScanFault.TheVariants.{Memory}
-use Rattle.bk_log.specs.declared.front.Front.TheVariants.{Record}
+use Rattle.bk_log.specs.declared.front.Front.{Front}
+use Rattle.bk_log.specs.declared.front.Front.TheVariants.{Record, Rest, Bad}
 use Rattle.bk_log.specs.Fronts.{IsFront}
-use Rattle.bk_log.specs.Ahead.{Ahead, ShowsAhead, ShowsWindow, AheadFails}
+use Rattle.bk_log.specs.Ahead.{Ahead, ShowsAhead, ShowsWindow, AheadFails, IsRecord, ShowsFront}
 
 -- an advance within the bytes that were read
 skipped_within : (bytes read : List ℕ) (at offset size : ℕ) → size ≤ length read - offset → drop offset read ≡ take (length read - offset) (drop at bytes)
@@ -50,6 +52,15 @@ lent bytes read since start before count from shown enough place =
     ∙ drop-take before (length read - start - before) (drop since bytes))
     ∙ take-take count (length read - start - before) (drop before (drop since bytes)) (omega arith)
     ∙ ap (take count) (drop-drop before since bytes ∙ ap (λ n. drop n bytes) (sym place))
+
+-- bytes that the view lent are the view's
+pub lent_in : (bytes lent : List ℕ) (start before count from : ℕ) → HasPrefix (drop start bytes) lent → before + count ≤ length lent
+    → from ≡ start + before → take count (drop before lent) ≡ take count (drop from bytes)
+lent_in bytes lent start before count from (behind, is) enough place =
+    sym (take-append-le count (drop before lent) behind (omega (arith, length-drop before lent, enough)))
+    ∙ ap (take count)
+    (sym (drop-append-le before lent behind (omega (arith, enough))) ∙ ap (drop before) (sym is) ∙ drop-drop before start bytes
+    ∙ ap (λ n. drop n bytes) (sym place))
 
 pub shows_window : (honest : Bool) (bytes read : List ℕ) (at offset since start size step taken : ℕ) → ShowsWindow honest bytes at offset since start read
     → step ≡ size → taken ≡ min size (length read - offset) → ShowsWindow honest bytes (at + step) (offset + taken) since start read
@@ -95,3 +106,11 @@ head_read w old over head wanted left size is least cut =
 pub no_room : (room size : ℕ) (here : List ℕ) (key : Option EntryKey) (fault : ScanFault) → (fault ≡ Memory) × (room ≡ 0) → IsFront here (Record size key)
     → AheadFails room here fault
 no_room room size here key fault (memory, none) stands = subst (AheadFails room here) (sym memory) (none, (stands.0, stands.1.0))
+
+-- a front that was lent, with room for its record
+pub shows_lent : (room : ℕ) (here : List ℕ) (front : Front) (result : Result Front ScanFault) → IsFront here front → IfOk result (λ found. found ≡ front)
+    → IfErr result (λ fault. (fault ≡ Memory) × (room ≡ 0) × IsRecord front) → ShowsFront room here result
+shows_lent room here front (Ok found) is same err = subst (IsFront here) (sym same) is
+shows_lent room here (Record size key) (Err fault) is same (memory, none, record') = no_room room size here key fault (memory, none) is
+shows_lent room here Rest (Err fault) is same (memory, none, record') = elim record' [ ]
+shows_lent room here (Bad value) (Err fault) is same (memory, none, record') = elim record' [ ]

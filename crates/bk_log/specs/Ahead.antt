@@ -4,6 +4,7 @@ use Rattle.std.specs.Prelude.{◌≡◌, ℕ, ◌-◌, ◌≤◌, ◌<◌, Bool,
 use Rattle.std.proofs.Common.{refl}
 use Rattle.std.specs.Coded.{Coded, code_by, coded×, coded_ℕ, coded_bool, coded_list}
 use Rattle.bk_record.specs.Piece.{BeginsWith}
+use Rattle.bk_disk.specs.Blocks.{HasPrefix}
 use Rattle.bk_log.specs.declared.fault.ScanFault.{ScanFault}
 use Rattle.bk_log.specs.declared.fault.ScanFault.TheVariants.{BadLength, Disk, Memory, Odd}
 use Rattle.bk_log.specs.declared.front.Front.{Front}
@@ -38,6 +39,10 @@ pub record ShowsWindow (honest : Bool) (bytes : List ℕ) (at offset since start
   pub ahead : ShowsAhead honest bytes at offset read
   pub begun : ShowsAhead honest bytes since start read
 
+-- on an honest view, the bytes that it lent are those from a position on
+abbrev pub ShowsLent : Bool → List ℕ → ℕ → List ℕ → Type 0
+ShowsLent honest bytes from lent = IsTrue honest → HasPrefix (drop from bytes) lent
+
 -- read of `n` bytes that are in an honest view
 abbrev pub ReadsLeft : {T : Type 0} → List ℕ → ℕ → ℕ → Result T ScanFault → List ℕ → Type 0
 ReadsLeft bytes at n (Ok _) out = out ≡ take n (drop at bytes)
@@ -55,6 +60,12 @@ AheadFails room here Odd = ⊥
 abbrev pub ShowsFront : ℕ → List ℕ → Result Front ScanFault → Type 0
 ShowsFront room here (Ok front) = IsFront here front
 ShowsFront room here (Err fault) = AheadFails room here fault
+
+-- the front is a record
+abbrev pub IsRecord : Front → Type 0
+IsRecord (Record size key) = Unit {0}
+IsRecord Rest = ⊥
+IsRecord (Bad value) = ⊥
 
 -- after a record the buffer is allocated
 abbrev pub HasRoomFor : ℕ → Front → Type 0

@@ -2,7 +2,7 @@
 
 ghost use Rattle.std.specs.Prelude.{◌≡◌, ◌+◌, ◌-◌, ◌≤◌, ◌<◌, ◌^◌, false, IsTrue, IsErrOf, IfOk, IfErr, IfSome, OnOk, OnErr, IsOkUnless, length, take, drop};
 ghost use Rattle.bk_disk.specs.Disk.{IsInView};
-ghost use Rattle.bk_log.specs.Ahead.{HasRoomFor, ReadsLeft};
+ghost use Rattle.bk_log.specs.Ahead.{HasRoomFor, IsRecord, ReadsLeft};
 ghost use Rattle.bk_log.specs.Fronts.{FitsIn};
 
 use crate::ScanFault;
@@ -24,6 +24,9 @@ const FIRST: u64 = 512;
 /// The bytes of `read` from `offset` are those of the view from the position; those from `start`
 /// are the view's from `since`. `read` is allocated at the first record and is no longer than the
 /// bytes left then. If a longer buffer cannot be allocated, the old one is used.
+///
+/// A view that has its bytes in memory lends them, from `lent_from` on; then only a head that lies
+/// in two blocks is copied.
 #[derive(Drop)]
 pub(crate) struct Window<'a, V: LogView> {
     view: &'a V,
@@ -33,11 +36,13 @@ pub(crate) struct Window<'a, V: LogView> {
     read: Vec<u8>,
     start: usize,
     offset: usize,
+    lent: &'a [u8],
+    lent_from: u64,
 }
 
 impl<'a, V: LogView> Model for Window<'a, V> {
     ghost use Rattle.std.specs.Prelude.{◌-◌, length};
-    ghost use Rattle.bk_log.specs.Ahead.{Ahead, ahead_code, ShowsWindow};
+    ghost use Rattle.bk_log.specs.Ahead.{Ahead, ahead_code, ShowsWindow, ShowsLent};
 
     ghost Value = { Ahead };
 
@@ -52,7 +57,8 @@ impl<'a, V: LogView> Model for Window<'a, V> {
       room = length w.read.items;
     } };
 
-    ghost invariant = { λ w. ShowsWindow (V.honest w.view.now) (V.bytes w.view.now) w.at w.offset w.since w.start w.read.items };
+    ghost invariant = { λ w. ShowsWindow (V.honest w.view.now) (V.bytes w.view.now) w.at w.offset w.since w.start w.read.items
+        × ShowsLent (V.honest w.view.now) (V.bytes w.view.now) w.lent_from w.lent.now };
 }
 
 impl<'a, V: LogView> Window<'a, V> {
@@ -77,6 +83,8 @@ impl<'a, V: LogView> Window<'a, V> {
             read: Vec::new(alloc),
             start: 0,
             offset: 0,
+            lent: &[],
+            lent_from: at,
         }
     }
 
@@ -87,9 +95,9 @@ impl<'a, V: LogView> Window<'a, V> {
         self.at
     }
 
-    /// Parses the start of the `left` bytes from the position. If its head is not in the window,
-    /// reads the head alone, and a window only for a record. Errors: `Disk` if the view is not
-    /// sound, `Memory` at the first record, `Odd`.
+    /// Parses the start of the `left` bytes from the position. If its head is neither lent nor in
+    /// the window, reads the head alone, and a window only for a record and if the view lends
+    /// nothing. Errors: `Disk` if the view is not sound, `Memory` at the first record, `Odd`.
     pub(crate) fn front(&mut self, left: u64) -> Result<Front, ScanFault>
         requires { IsTrue self.old.honest → IsInView self.old.bytes self.old.at left }
         ensures same { self.new ≡ record self.old { ready = self.new.ready; room = self.new.room } }
@@ -100,10 +108,31 @@ impl<'a, V: LogView> Window<'a, V> {
             → ShowsFront self.old.room (take left (drop self.old.at self.old.bytes)) result }
     {
         let wanted = left.min(HEAD) as usize;
+        let at = self.at;
+        if let Some(head) = self.lent(at, wanted) {
+            return self.with_room(front_of(head, left), left);
+        }
         if wanted <= self.read.len() - self.offset {
             let head = &self.read[self.offset..self.offset + wanted];
             return Ok(front_of(head, left));
         }
+        if let Some(head) = self.borrow(wanted) {
+            return self.with_room(front_of(head, left), left);
+        }
+        self.read_front(left)
+    }
+
+    /// Same as `front`, for a head that has to be read.
+    fn read_front(&mut self, left: u64) -> Result<Front, ScanFault>
+        requires { IsTrue self.old.honest → IsInView self.old.bytes self.old.at left }
+        ensures same { self.new ≡ record self.old { ready = self.new.ready; room = self.new.room } }
+        ensures cause { IsErrOf result ScanFault.Disk → self.old.sound ≡ false }
+        ensures fits { IfOk result (FitsIn left) }
+        ensures room { IfOk result (HasRoomFor self.new.room) }
+        ensures transition { IsTrue self.old.honest
+            → ShowsFront self.old.room (take left (drop self.old.at self.old.bytes)) result }
+    {
+        let wanted = left.min(HEAD) as usize;
         let mut bytes = [0u8; RECORD_HEAD];
         let head = &mut bytes[..wanted];
         read_left(self.view, self.at, head)?;
@@ -112,11 +141,70 @@ impl<'a, V: LogView> Window<'a, V> {
             if let Err(fault) = self.make(left, size) {
                 return Err(fault);
             }
-            if u64::from(size) < WINDOW {
-                self.fill(left)?;
+            self.read_on(left, size)?;
+        }
+        Ok(front)
+    }
+
+    /// Reads a window for a record of this size, unless the record is longer or the view lends its
+    /// bytes.
+    fn read_on(&mut self, left: u64, size: u32) -> Result<(), ScanFault>
+        requires some { 0 < left }
+        requires made { 0 < self.old.room }
+        requires view { IsTrue self.old.honest → IsInView self.old.bytes self.old.at left }
+        ensures same { self.new ≡ record self.old { ready = self.new.ready; room = self.new.room } }
+        ensures cause { IsErrOf result ScanFault.Disk → self.old.sound ≡ false }
+        ensures room { 0 < self.new.room }
+        ensures transition { IsTrue self.old.honest → IfErr result (λ fault. fault ≡ ScanFault.Disk) }
+    {
+        if u64::from(size) >= WINDOW || !self.lent.is_empty() {
+            return Ok(());
+        }
+        self.fill(left)
+    }
+
+    /// Returns what the view lent, `front`, after the buffer is allocated at the first record.
+    fn with_room(&mut self, front: Front, left: u64) -> Result<Front, ScanFault>
+        requires { FitsIn left front }
+        ensures same { self.new ≡ record self.old { ready = self.new.ready; room = self.new.room } }
+        ensures value { IfOk result (λ found. found ≡ front) }
+        ensures room { IfOk result (HasRoomFor self.new.room) }
+        ensures err { IfErr result (λ fault. (fault ≡ ScanFault.Memory) × (self.old.room ≡ 0) × IsRecord front) }
+    {
+        if let Front::Record { size, .. } = front {
+            if self.read.is_empty() {
+                self.make(left, size)?;
             }
         }
         Ok(front)
+    }
+
+    /// Returns the `count` bytes of the view from a position, if the view lent them.
+    #[inline]
+    fn lent(&self, from: u64, count: usize) -> Option<&'a [u8]>
+        ensures long { IfSome result (λ bytes. length bytes.now ≡ count) }
+        ensures value { IsTrue self.now.honest → IfSome result (λ bytes. bytes.now ≡ take count (drop from self.now.bytes)) }
+    {
+        let lent = self.lent;
+        let before = from.checked_sub(self.lent_from)?;
+        if before > lent.len() as u64 || count > lent.len() - before as usize {
+            return None;
+        }
+        let begin = before as usize;
+        Some(&lent[begin..begin + count])
+    }
+
+    /// Asks the view for its bytes from the position on. Returns `count` of them, if it has them.
+    fn borrow(&mut self, count: usize) -> Option<&'a [u8]>
+        ensures same { self.new ≡ self.old }
+        ensures long { IfSome result (λ bytes. length bytes.now ≡ count) }
+        ensures value { IsTrue self.old.honest → IfSome result (λ bytes. bytes.now ≡ take count (drop self.old.at self.old.bytes)) }
+    {
+        let view = self.view;
+        let at = self.at;
+        self.lent = view.lend(at);
+        self.lent_from = at;
+        self.lent(at, count)
     }
 
     /// Allocates the buffer if there is none; else a longer one, if memory is available.
@@ -185,12 +273,15 @@ impl<'a, V: LogView> Window<'a, V> {
         self.offset += (size as usize).min(self.read.len() - self.offset);
     }
 
-    /// Returns the `count` bytes of the view from a position, if the window has them all. Reads
-    /// nothing.
+    /// Returns the `count` bytes of the view from a position, if they are lent or the window has
+    /// them all. Reads nothing.
     pub(crate) fn lend(&self, from: u64, count: usize) -> Option<&[u8]>
         ensures long { IfSome result (λ bytes. length bytes.now ≡ count) }
         ensures value { IsTrue self.now.honest → IfSome result (λ bytes. bytes.now ≡ take count (drop from self.now.bytes)) }
     {
+        if let Some(bytes) = self.lent(from, count) {
+            return Some(bytes);
+        }
         let before = from.checked_sub(self.since)?;
         let known = self.read.len() - self.start;
         if before > known as u64 || count > known - before as usize {

@@ -31,14 +31,14 @@ use Rattle.bk_offline_gc.specs.Sweeping.{HadLeases, IsLeft, SweepFrame}
 pub frame_then : (s t u : State) → SweepFrame s t → SweepFrame t u → SweepFrame s u
 frame_then s t u first second = record {
   stays = stays_then first.stays second.stays;
-  caches = record { active = second.caches.active ∙ first.caches.active; flush = second.caches.flush ∙ first.caches.flush };
+  caches = record { active = second.caches.active ∙ first.caches.active; flush = second.caches.flush ∙ first.caches.flush; fronts = second.caches.fronts ∙ first.caches.fronts };
   meaning = stays_on s t u first.meaning second.meaning;
 }
 
 pub frame_none : (s : State) → SweepFrame s s
 frame_none s = record {
   stays = record { settings = refl; ledgers = refl; gone = λ _ is. is };
-  caches = record { active = refl; flush = refl };
+  caches = record { active = refl; flush = refl; fronts = refl };
   meaning = record { honest = refl; meaning = λ _ _. refl };
 }
 

@@ -30,7 +30,7 @@ use Rattle.bk_store.specs.declared.answer.TakeFault.TheVariants as take_faults
 use Rattle.bk_flush.specs.declared.answer.PublishAnswer.TheVariants.{Published}
 use Rattle.bk_drive.specs.Abstract.{AbstractMachine, AbstractReaderTake, abstract_after_work}
 use Rattle.bk_drive.specs.Machine.{AbstractTransition}
-use Rattle.bk_drive.specs.Machine.AbstractTransition.{worked, added, recovered, deleted, fenced, taken, fetched, released, asked}
+use Rattle.bk_drive.specs.Machine.AbstractTransition.{worked, added, recovered, deleted, fenced, taken, fetched, released, asked, counted}
 use Rattle.bk_drive.specs.declared.step.Step.{Step}
 use Rattle.bk_drive.specs.declared.step.Step.TheVariants as steps
 use Rattle.bk_drive.specs.declared.step.Answer.{Answer}
@@ -105,6 +105,7 @@ step_ledgers limit p q x a (taken turn) = only_trail (take_store p q _ _ _ turn)
 step_ledgers limit p q x a (fetched turn) = (refl, refl)
 step_ledgers limit p q x a (released turn) = (refl, refl)
 step_ledgers limit p q x a (asked turn) = (refl, refl)
+step_ledgers limit p q x a (counted same) = (refl, refl)
 
 -- ---- their records
 
@@ -181,6 +182,7 @@ step_recorded (steps.Take reader key) m m' known now gives turn honest was = onl
 step_recorded (steps.Fetch reader) m m' known now gives turn honest was = only_trail_recorded m m' known now gives.1 turn was
 step_recorded (steps.Release reader) m m' known now gives turn honest was = only_trail_recorded m m' known now gives.1 turn was
 step_recorded (steps.Read read) m m' known now gives turn honest was = only_trail_recorded m m' known now gives.1 turn was
+step_recorded steps.Stats m m' known now gives turn honest was = only_trail_recorded m m' known now gives.1 turn was
 
 none_recorded : (one : Fact) (subject : Subject) (ledger : ℕ) (m m' : Kept) (known : KnownLedgers) → RecordsOne one subject ledger m false m' → IsTrue m.honest
     → AreLedgersRecorded known (durable m) → StaysRecorded m known m'
@@ -199,6 +201,7 @@ refusal_recorded (steps.Take reader key) m m' known gives honest was = absurd (l
 refusal_recorded (steps.Fetch reader) m m' known gives honest was = absurd (let e = gives.0 in cc)
 refusal_recorded (steps.Release reader) m m' known gives honest was = absurd (let e = gives.0 in cc)
 refusal_recorded (steps.Read read) m m' known gives honest was = absurd (let e = gives.0 in cc)
+refusal_recorded steps.Stats m m' known gives honest was = absurd (let e = gives.0 in cc)
 
 -- ---- honesty
 
@@ -219,3 +222,4 @@ step_honest (steps.Take reader key) m m' b gives = ap (λ (k : Kept). k.honest) 
 step_honest (steps.Fetch reader) m m' b gives = ap (λ (k : Kept). k.honest) gives.1
 step_honest (steps.Release reader) m m' b gives = ap (λ (k : Kept). k.honest) gives.1
 step_honest (steps.Read read) m m' b gives = ap (λ (k : Kept). k.honest) gives.1
+step_honest steps.Stats m m' b gives = ap (λ (k : Kept). k.honest) gives.1

@@ -98,7 +98,8 @@ impl<F: ManifestFile> Recorder for LedgerRecorder<F> {
             | Step::Take(_, _)
             | Step::Fetch(_)
             | Step::Release(_)
-            | Step::Read(_) => true,
+            | Step::Read(_)
+            | Step::Stats => true,
         }
     }
 }

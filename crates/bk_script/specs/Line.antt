@@ -11,7 +11,6 @@ use Rattle.bk_drive.specs.declared.step.Step.{Step}
 use Rattle.bk_drive.specs.declared.step.Step.TheVariants as steps
 use Rattle.bk_store.specs.declared.adding.AddKind.{AddKind}
 use Rattle.bk_store.specs.declared.adding.AddKind.TheVariants.{Ordinary, Recovery}
-use Rattle.bk_drive.specs.declared.step.Work.{Work}
 use Rattle.bk_drive.specs.declared.step.Work.TheVariants.{Swap, WriteOne, Publish, Roll, Retire, Rebuild, Close, Remove}
 use Rattle.bk_drive.specs.declared.step.Work.TheVariants.{Begin, Copy, EndCopy, Switch, Finish, GiveUp}
 use Rattle.bk_drive.specs.declared.ledger_reads.LedgerRead.TheVariants.{Holds, IsFenced, LastEntry, Entries, Ledgers}
@@ -77,8 +76,8 @@ pub record Form : Type 0 where
   pub step : List ℕ → Step
 
 -- A word alone, and words with one, two and three numbers.
-abbrev pub alone : List ℕ → Work → Form
-alone word call = record { word = word; ranges = []; step = λ numbers. steps.Work call }
+abbrev pub alone : List ℕ → Step → Form
+alone word step = record { word = word; ranges = []; step = λ numbers. step }
 
 abbrev pub with_one : List ℕ → Range → (ℕ → Step) → Form
 with_one word range make = record { word = word; ranges = range ∷ []; step = λ numbers. make (slice_index numbers 0) }
@@ -101,16 +100,17 @@ with_three word first second third make = record {
 -- be used.
 abbrev pub forms : List Form
 forms =
-    alone (codes "swap") Swap
-    ∷ alone (codes "write") WriteOne
-    ∷ alone (codes "publish") Publish
-    ∷ alone (codes "roll") Roll
-    ∷ alone (codes "rebuild") Rebuild
-    ∷ alone (codes "minor") (Begin Minor)
-    ∷ alone (codes "major") (Begin Major)
-    ∷ alone (codes "end") EndCopy
-    ∷ alone (codes "finish") Finish
-    ∷ alone (codes "giveup") GiveUp
+    alone (codes "swap") (steps.Work Swap)
+    ∷ alone (codes "write") (steps.Work WriteOne)
+    ∷ alone (codes "publish") (steps.Work Publish)
+    ∷ alone (codes "roll") (steps.Work Roll)
+    ∷ alone (codes "rebuild") (steps.Work Rebuild)
+    ∷ alone (codes "minor") (steps.Work (Begin Minor))
+    ∷ alone (codes "major") (steps.Work (Begin Major))
+    ∷ alone (codes "end") (steps.Work EndCopy)
+    ∷ alone (codes "finish") (steps.Work Finish)
+    ∷ alone (codes "giveup") (steps.Work GiveUp)
+    ∷ alone (codes "stats") steps.Stats
     ∷ with_one (codes "retire") log (λ n. steps.Work (Retire n))
     ∷ with_one (codes "close") log (λ n. steps.Work (Close n))
     ∷ with_one (codes "remove") log (λ n. steps.Work (Remove n))

@@ -62,6 +62,7 @@ use Rattle.bk_drive.specs.declared.step.FetchAnswer.{FetchAnswer}
 use Rattle.bk_drive.specs.declared.step.FetchAnswer.TheVariants as fetches
 use Rattle.bk_drive.specs.declared.step.ReleaseAnswer.{ReleaseAnswer}
 use Rattle.bk_drive.specs.declared.step.ReleaseAnswer.TheVariants as releases
+use Rattle.bk_drive.specs.declared.counts.Counts.{Counts}
 use Rattle.bk_drive.specs.declared.ledger_reads.LedgerReadAnswer.{LedgerReadAnswer}
 use Rattle.bk_drive.specs.declared.ledger_reads.LedgerReadAnswer.TheVariants as told
 use Rattle.bk_drive.specs.declared.step.Answer.{Answer}
@@ -278,6 +279,12 @@ read_text (told.LastEntry last) = last_text last
 read_text (told.Entries page) = page_text (codes "entries") (codes "no entry") page
 read_text (told.Ledgers page) = page_text (codes "ledgers") (codes "no ledger") page
 
+-- Bytes in the caches, marks of the trail, and how many of these are durable.
+abbrev pub stats_text : Counts → List ℕ
+stats_text counts =
+    codes "stats cached " ++ decimal counts.cached ++ codes " flushing " ++ decimal counts.flushing
+    ++ codes " marks " ++ decimal counts.front ++ codes " durable " ++ decimal counts.durable
+
 -- The text of an answer.
 abbrev pub text_of : Answer → List ℕ
 text_of (answers.Add answer) = add_text answer
@@ -301,6 +308,7 @@ text_of (answers.Switch answer) = switch_text answer
 text_of (answers.Finish answer) = finish_text answer
 text_of (answers.GiveUp answer) = give_up_text answer
 text_of (answers.Read answer) = read_text answer
+text_of (answers.Stats counts) = stats_text counts
 text_of answers.Unrecorded = codes "fault disk"
 
 -- One line for each answer.

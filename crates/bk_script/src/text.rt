@@ -7,6 +7,7 @@ ghost use Rattle.bk_script.specs.Text.{release_text, roll_text, swap_text, take_
 
 mod collecting;
 mod compacting;
+mod counting;
 mod faults;
 mod reading;
 
@@ -49,6 +50,7 @@ impl Display for Text<'_, Answer> {
             Answer::Finish(answer) => Text(answer).fmt(f),
             Answer::GiveUp(answer) => Text(answer).fmt(f),
             Answer::Read(answer) => Text(answer).fmt(f),
+            Answer::Stats(counts) => Text(counts).fmt(f),
             Answer::Unrecorded => write!(f, "fault disk"),
         }
     }

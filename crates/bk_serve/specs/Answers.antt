@@ -8,6 +8,7 @@ use Rattle.bk_serve_core.specs.Requests.{Ask}
 use Rattle.bk_serve_core.specs.Replies.{Told, refused}
 use Rattle.bk_serve_core.specs.declared.refusal.Refusal.TheVariants as f
 use Rattle.bk_serve.specs.Adds.{AddAnswers, payload_of}
+use Rattle.bk_serve.specs.Figures.{FiguresAnswers}
 use Rattle.bk_serve.specs.Flushes.{FlushAnswers, CheckpointAnswers, SealAnswers, CloseAnswers, CompactAnswers}
 use Rattle.bk_serve.specs.Ledgers.{DeleteAnswers, FenceAnswers, IsFencedAnswers, SetAnswers, GetAnswers, Same}
 use Rattle.bk_serve.specs.Listings.{EntriesAnswers, LastEntryAnswers, LedgersAnswers, ReadLastAnswers}
@@ -39,6 +40,6 @@ Answers bytes honest sound s m (q.explicit_lac ledger) reply t m' = GetAnswers 1
 Answers bytes honest sound s m q.flush reply t m' = FlushAnswers s reply t × (m' ≡ m)
 Answers bytes honest sound s m q.checkpoint reply t m' = CheckpointAnswers s reply t × (m' ≡ m)
 Answers bytes honest sound s m (q.compact minor major) reply t m' = CompactAnswers s reply t × (m' ≡ m)
-Answers bytes honest sound s m q.stats reply t m' = NotOffered s m reply t m'
+Answers bytes honest sound s m q.stats reply t m' = FiguresAnswers s reply × Same s m t m'
 Answers bytes honest sound s m q.seal reply t m' = SealAnswers s reply t × (m' ≡ m)
 Answers bytes honest sound s m q.close reply t m' = CloseAnswers s reply t × (m' ≡ m)

@@ -1,6 +1,8 @@
 pub mod Adds
 pub mod Answers
+pub mod Background
 pub mod CatchingUp
+pub mod Figures
 pub mod Flushes
 pub mod Ledgers
 pub mod Listings

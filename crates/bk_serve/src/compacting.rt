@@ -167,8 +167,13 @@ fn is_threshold(asked: u64, own: u32) -> bool
 }
 
 /// Compacts the logs below the store's thresholds. A threshold of the request is 0, which omits
-/// its kind, or that of the store.
-pub(crate) fn compact<D: LogDisk>(store: &mut Store<D>, minor: u64, major: u64) -> Reply<'static>
+/// its kind, or that of the store. Does nothing if the compaction in the background is busy.
+pub(crate) fn compact<D: LogDisk>(
+    store: &mut Store<D>,
+    is_busy: bool,
+    minor: u64,
+    major: u64,
+) -> Reply<'static>
     ensures { CompactAnswers store.old (told result) store.new }
 {
     let settings = store.settings();
@@ -177,6 +182,9 @@ pub(crate) fn compact<D: LogDisk>(store: &mut Store<D>, minor: u64, major: u64) 
     }
     if !is_threshold(major, settings.major) {
         return Reply::Refused(Refusal::OutOfRange);
+    }
+    if is_busy {
+        return Reply::Refused(Refusal::Busy);
     }
     let mut tally = Tally::NONE;
     match compact_both(store, &mut tally, minor, major) {

@@ -9,7 +9,9 @@ ghost use Rattle.bk_serve.specs.Answers.{Answers};
 
 use crate::adding::add;
 use crate::attributes::{attribute, set_attribute};
+use crate::background::Background;
 use crate::compacting::compact;
+use crate::figures::figures;
 use crate::ledgers::{delete, fence, is_fenced};
 use crate::listing::{entries, last_entry, ledgers, read_last};
 use crate::reading::{holds, read, read_back};
@@ -19,7 +21,7 @@ use bk_manifest::{Manifest, ManifestFile};
 use bk_manifest_disk::{KeptDisk, KeptFile, LimitedDisk};
 use bk_serve_core::{EncodeError, Refusal, Reply, Request};
 use bk_serve_dispatch::Service;
-use bk_store::{AddKind, Store};
+use bk_store::{AddKind, Stats, Store};
 use std::alloc::Global;
 
 /// Kind of the attribute that is a ledger's master key.
@@ -34,6 +36,7 @@ pub(crate) struct Host<D: LogDisk, F: ManifestFile> {
     pub(crate) alloc: Global,
     pub(crate) store: Store<D>,
     pub(crate) notes: Manifest<F>,
+    pub(crate) background: Background,
 }
 
 /// The disk of the directory, with the manifest of its logs.
@@ -41,18 +44,44 @@ pub(crate) type ServedDisk = KeptDisk<LimitedDisk<DirDisk>, KeptFile>;
 
 impl Service for Host<ServedDisk, KeptFile> {
     ghost use Rattle.bk_manifest_disk.specs.Limiting.{ShownView, shown};
+    ghost use Rattle.bk_serve.specs.Flushes.{MayWork};
 
     ghost answers = { λ s request reply t. Answers {V = ShownView} (λ v. shown v.limit v.bytes) (λ v. v.honest) (λ v. v.sound) s.store s.notes request reply t.store t.notes };
 
-    /// Carries out a request and appends its reply.
+    ghost works = { λ s t. MayWork s.store t.store × (t.notes ≡ s.notes) };
+
+    /// Carries out a request and appends its reply. If the store published entries or lost some,
+    /// another round of the compaction begins.
     fn call(
         &mut self,
         id: u64,
         request: &Request<'_>,
         out: &mut Vec<u8>,
     ) -> Result<(), EncodeError> {
-        answer(self, id, request, out)
+        if !self.background.is_on() {
+            return answer(self, id, request, out);
+        }
+        let before = self.store.stats();
+        let answered = answer(self, id, request, out);
+        if is_less(&self.store.stats(), &before) {
+            self.background.stir();
+        }
+        answered
     }
+
+    fn is_due(&self) -> bool {
+        self.background.is_due()
+    }
+
+    /// Performs a step of the compaction.
+    fn work(&mut self) {
+        self.background.work(&mut self.store);
+    }
+}
+
+/// Returns whether fewer bytes are cached or fewer entries indexed.
+fn is_less(after: &Stats, before: &Stats) -> bool {
+    after.cached < before.cached || after.indexed < before.indexed
 }
 
 /// Carries out a request and appends its reply.
@@ -73,7 +102,9 @@ pub(crate) fn answer<D: LogDisk, F: ManifestFile>(
         alloc,
         store,
         notes,
+        background,
     } = host;
+    let is_busy = background.has_job();
     let alloc = *alloc;
     match *request {
         Request::Add {
@@ -131,11 +162,13 @@ pub(crate) fn answer<D: LogDisk, F: ManifestFile>(
         Request::ExplicitLac { ledger } => attribute(store, notes, EXPLICIT_LAC, ledger, id, out),
         Request::Flush => flush(store).encode(id, out),
         Request::Checkpoint => checkpoint(store).encode(id, out),
-        Request::Compact { minor, major } => compact(store, minor, major).encode(id, out),
+        Request::Compact { minor, major } => {
+            compact(store, is_busy, minor, major).encode(id, out)
+        }
         Request::Seal => seal(store).encode(id, out),
         Request::Close => close(store).encode(id, out),
         Request::Hello { .. } => not_offered(id, out),
-        Request::Stats => not_offered(id, out),
+        Request::Stats => figures(store).encode(id, out),
     }
 }
 

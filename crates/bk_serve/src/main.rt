@@ -3,9 +3,11 @@
 
 mod adding;
 mod attributes;
+mod background;
 mod catching_up;
 mod command;
 mod compacting;
+mod figures;
 mod flushing;
 mod folder;
 mod host;
@@ -13,6 +15,7 @@ mod ledgers;
 mod listing;
 mod notes;
 mod opening;
+mod pump;
 mod reading;
 mod refusals;
 mod sealing;
@@ -34,7 +37,9 @@ fn main(rt: HostRuntime) -> ExitCode {
         }
     };
     match command_of(&words) {
-        Command::Serve(path) => ExitCode::from(serve(&rt, path, &mut errors)),
+        Command::Serve { path, compact } => {
+            ExitCode::from(serve(&rt, rt, path, compact, &mut errors))
+        }
         Command::Help => ExitCode::from(print(&rt, HELP)),
         Command::Version => ExitCode::from(print(&rt, VERSION)),
         Command::Wrong => {

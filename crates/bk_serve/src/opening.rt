@@ -1,5 +1,6 @@
 //! Opening a directory: its logs, and the manifests of its logs and ledgers.
 
+use crate::background::{Background, Thresholds};
 use crate::folder::open_folder;
 use crate::host::{Host, ServedDisk};
 use bk_disk::{DiskFault, FolderFault, LogDisk};
@@ -128,15 +129,28 @@ fn fence_all<D: LogDisk>(store: &mut Store<D>, ledgers: &[u64]) -> Result<(), Al
     Ok(())
 }
 
+/// Returns the settings of a store that is compacted in the background.
+fn settings_of(compact: Option<Thresholds>) -> Settings {
+    let Some(Thresholds { minor, major }) = compact else {
+        return SETTINGS;
+    };
+    Settings {
+        minor: if minor == 0 { SETTINGS.minor } else { minor },
+        major: if major == 0 { SETTINGS.major } else { major },
+        ..SETTINGS
+    }
+}
+
 /// Opens a store on the logs of a disk, with the deletions and fences of a manifest.
 fn open_host<D: LogDisk, F: ManifestFile>(
     alloc: Global,
     disk: D,
     notes: Manifest<F>,
+    compact: Option<Thresholds>,
 ) -> Result<Host<D, F>, OpenFault> {
     let records = notes.state().records(alloc)?;
     let named = ledgers_of(alloc, &records)?;
-    let mut store = match Store::open(alloc, disk, SETTINGS, &named.deleted) {
+    let mut store = match Store::open(alloc, disk, settings_of(compact), &named.deleted) {
         Ok(store) => store,
         Err(fault) => return Err(OpenFault::Store(fault)),
     };
@@ -145,6 +159,7 @@ fn open_host<D: LogDisk, F: ManifestFile>(
         alloc,
         store,
         notes,
+        background: Background::new(compact),
     })
 }
 
@@ -166,7 +181,11 @@ pub(crate) struct Opening {
 }
 
 /// Opens the directory at a path.
-pub(crate) fn open(rt: &HostRuntime, path: &str) -> Result<Opening, OpenFault> {
+pub(crate) fn open(
+    rt: &HostRuntime,
+    path: &str,
+    compact: Option<Thresholds>,
+) -> Result<Opening, OpenFault> {
     let alloc = rt.alloc();
     let mut disk = open_folder(rt, path)?;
     let ledgers = open_ledgers(alloc, &mut disk)?;
@@ -178,7 +197,7 @@ pub(crate) fn open(rt: &HostRuntime, path: &str) -> Result<Opening, OpenFault> {
         }
     }
     Ok(Opening {
-        host: open_host(alloc, logs.disk, ledgers.manifest)?,
+        host: open_host(alloc, logs.disk, ledgers.manifest, compact)?,
         torn: all,
         reports: logs.reports,
     })

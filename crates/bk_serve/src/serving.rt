@@ -1,14 +1,24 @@
 //! A session over standard input and output.
 
+use crate::background::Thresholds;
 use crate::listing::PAGE;
 use crate::opening::{OpenFault, Opening, TornFile, open};
+use crate::pump::{Pumped, pump};
 use bk_manifest_disk::Report;
 use bk_serve_core::{Done, LONGEST_FRAME, Reply, VERSION};
-use bk_serve_dispatch::{Buffers, End, Service, finish, greet, serve_requests, tell_end};
-use std::io::{BufReader, Read, Stderr, Write};
+use bk_serve_dispatch::{
+    Buffers, End, Input, Service, Source, finish, greet, serve_requests, tell_end,
+};
+use std::io::{BufReader, BufWriter, Read, Stderr, Write};
+use std::sync::Wait;
+use std::thread;
+use std::thread::Threads;
 
 /// Number of requests that a client may send ahead.
 const IN_FLIGHT: u64 = 256;
+
+/// Number of bytes of input and of output that are kept.
+const BUFFER: usize = 65_536;
 
 const WELCOME: Reply<'static> = Reply::Done(Done::Welcome {
     version: VERSION,
@@ -19,16 +29,53 @@ const WELCOME: Reply<'static> = Reply::Done(Done::Welcome {
 
 /// Opens the directory at a path and serves it. Returns the exit status: 0 if the session ended in
 /// order and everything was flushed, else 1. Writes why the directory did not open to the error
-/// stream too, which manifest ended torn, and what is ignored of the logs.
-pub(crate) fn serve(rt: &HostRuntime, path: &str, errors: &mut Stderr) -> u8 {
-    let alloc = rt.alloc();
-    let Ok(mut reader) = BufReader::with_capacity(alloc, 65_536, rt.stdin()) else {
+/// stream too, which manifest ended torn, what is ignored of the logs, and how many steps of the
+/// compaction failed.
+pub(crate) fn serve<H: Threads + Wait + Copy + Drop + Send + 'static>(
+    rt: &HostRuntime,
+    handle: H,
+    path: &str,
+    compact: Option<Thresholds>,
+    errors: &mut Stderr,
+) -> u8 {
+    if compact.is_none() {
+        return serve_input(rt, rt.stdin(), path, compact, errors);
+    }
+    let Some((to, input)) = Pumped::new(rt.alloc(), handle) else {
         let _ = writeln!(errors, "fault memory");
         return 1;
     };
-    let mut writer = rt.stdout();
+    let alloc = rt.alloc();
+    let stdin = rt.stdin();
+    // The thread is not joined: it may wait for input after the session has ended.
+    match thread::spawn(&handle, move || pump(&handle, alloc, stdin, to)) {
+        Ok(_reading) => serve_input(rt, input, path, compact, errors),
+        Err(_) => {
+            let _ = writeln!(errors, "fault thread");
+            1
+        }
+    }
+}
+
+/// Opens the directory at a path and serves it by this input.
+fn serve_input<I: Source + Drop>(
+    rt: &HostRuntime,
+    input: I,
+    path: &str,
+    compact: Option<Thresholds>,
+    errors: &mut Stderr,
+) -> u8 {
+    let alloc = rt.alloc();
+    let Ok(mut reader) = BufReader::with_capacity(alloc, BUFFER, input) else {
+        let _ = writeln!(errors, "fault memory");
+        return 1;
+    };
+    let Ok(mut writer) = BufWriter::with_capacity(alloc, BUFFER, rt.stdout()) else {
+        let _ = writeln!(errors, "fault memory");
+        return 1;
+    };
     let mut buffers = Buffers::new(alloc);
-    match open(rt, path) {
+    match open(rt, path, compact) {
         Ok(
             Opening {
                 mut host,
@@ -37,13 +84,22 @@ pub(crate) fn serve(rt: &HostRuntime, path: &str, errors: &mut Stderr) -> u8 {
             },
         ) => {
             tell_ignored(&torn, &reports, errors);
-            serve_session(&mut host, &mut reader, &mut writer, &mut buffers)
+            let status = serve_session(&mut host, &mut reader, &mut writer, &mut buffers);
+            tell_faults(host.background.faults(), errors);
+            status
         }
         Err(fault) => {
             let _ = writeln!(errors, "fault {fault}");
             refuse(&fault, &mut reader, &mut writer, &mut buffers);
             1
         }
+    }
+}
+
+/// Reports how many steps of the compaction failed, if any did.
+fn tell_faults(faults: u64, errors: &mut Stderr) {
+    if faults > 0 {
+        let _ = writeln!(errors, "note compaction: {faults} steps failed");
     }
 }
 
@@ -62,7 +118,7 @@ fn tell_ignored(torn: &[TornFile], reports: &[Report], errors: &mut Stderr) {
 }
 
 /// Serves a session of an open directory. Returns the exit status.
-fn serve_session<S: Service, R: Read, W: Write>(
+fn serve_session<S: Service, R: Input, W: Write>(
     service: &mut S,
     reader: &mut R,
     writer: &mut W,
@@ -75,7 +131,8 @@ fn serve_session<S: Service, R: Read, W: Write>(
             return 1;
         }
     };
-    if finish(service, writer, end, buffers) {
+    let is_written = writer.flush().is_ok();
+    if finish(service, writer, end, is_written, buffers) {
         0
     } else {
         1

@@ -67,15 +67,16 @@ pub enum Done<'a> {
         logs: u64,
         entries: u64,
     },
-    /// The store: its logs, their bytes, the bytes of live records, the bytes in the write caches,
-    /// leases that are out, failed calls of the device, the next log's id, the length of the trail.
+    /// The store: its logs, the bytes of their records, those of live ledgers, the payload bytes of
+    /// the write caches, the entries of the index, a number below which every mark of the trail is
+    /// durable, the next log's id, and the length of the trail.
     Figures {
         logs: u64,
         bytes: u64,
         live: u64,
         cached: u64,
-        leases: u64,
-        failures: u64,
+        indexed: u64,
+        durable: u64,
         next_log: u64,
         front: u64,
     },

@@ -1,16 +1,18 @@
 -- What a turn does, from what its parts do.
-use Rattle.std.proofs.Common.{◌≡◌, ℕ, List, Option, Bool, true, sym, subst, refl}
+use Rattle.std.proofs.Common.{◌≡◌, ◌∙◌, ℕ, List, drop, Option, Bool, true, IsTrue, ap, sym, subst, refl}
+use Rattle.std.specs.Io.KnownBytes.{Appends, Keeps}
 use Rattle.bk_serve_core.specs.declared.ended.Ended.{Ended}
 use Rattle.bk_serve_core.specs.declared.ended.Ended.TheVariants as e
+use Rattle.bk_serve_core.specs.Fields.{frame_of}
 use Rattle.bk_serve_core.specs.Reading.{ReadsFrame}
 use Rattle.bk_serve_core.specs.Requests.{Ask, close}
-use Rattle.bk_serve_core.specs.Replies.{Told}
+use Rattle.bk_serve_core.specs.Replies.{Told, done, closed, told_bytes}
 use Rattle.bk_serve_dispatch.specs.declared.ending.End.{End}
 use Rattle.bk_serve_dispatch.specs.declared.ending.End.TheVariants as end
 use Rattle.bk_serve_dispatch.specs.declared.session.Turn.{Turn}
 use Rattle.bk_serve_dispatch.specs.declared.session.Turn.TheVariants as turn
 use Rattle.bk_serve_dispatch.specs.Frames.{Asks}
-use Rattle.bk_serve_dispatch.specs.Session.{Point, point, Exchange, Exchanges, more, Breaks, unsaid, Answers, Turns, EndsAt, Serves, IsAnswered}
+use Rattle.bk_serve_dispatch.specs.Session.{Point, point, Exchange, Exchanges, more, rests, writes_out, Rests, idle, step, Breaks, CarriesOut, unsaid, Answers, IsTurnAfter, Turns, EndsAt, SaysClosed, Serves, IsAnswered}
 
 exchange : {S : Type 0} (answers : S → Ask → Told → S → Type 0) (before : Point S) (after : S) (input output : Option (List ℕ)) (frame : List ℕ) (id : ℕ) (request : Ask)
     → ReadsFrame true before.input input frame → Asks before.last frame id request → IsAnswered answers before.state request id after before.output output
@@ -24,6 +26,44 @@ exchange answers before after input output frame id request reads asks is = reco
   written = is.2;
 }
 
+-- a request that was read was carried out, under another name of its id
+carries_out : {S : Type 0} (answers : S → Ask → Told → S → Type 0) (before : Point S) (after : S) (input : Option (List ℕ)) (frame : List ℕ) (id with_id : ℕ) (request : Ask) (reply : Told)
+    → ReadsFrame true before.input input frame → Asks before.last frame id request → with_id ≡ id → answers before.state request reply after
+    → CarriesOut answers before with_id after input
+carries_out answers before after input frame id with_id request reply reads asks same carried_out =
+    subst (λ n. CarriesOut answers before n after input) (sym same)
+    (record { request = request; frame = frame; reads = reads; asks = asks; reply = reply; carried_out = carried_out })
+
+-- the reply in a frame
+reply_in : (id : ℕ) (reply : Told) → drop 12 (frame_of id (told_bytes reply)) ≡ told_bytes reply
+reply_in id reply = refl
+
+-- a request that was carried out, and whose reply was written, was answered
+pub answered_by : {S : Type 0} (answers : S → Ask → Told → S → Type 0) (s : S) (request : Ask) (id : ℕ) (after : S) (output output_after : Option (List ℕ)) (out : List ℕ) (t : Turn) (reply : Told)
+    → answers s request reply after → out ≡ frame_of id (told_bytes reply) → Appends output output_after out → IsTurnAfter id request out t
+    → Answers answers s request id after output output_after t
+answered_by answers s request id after output output_after out (turn.Answered next) reply carried_out same written a =
+    (a.0, a.1, (reply, carried_out, subst (λ x. Appends output output_after x) same written))
+answered_by answers s request id after output output_after out (turn.Ended (end.Closed is_flushed)) reply carried_out same written a = (
+  a.0,
+  (reply, carried_out, subst (λ x. Appends output output_after x) same written),
+  λ is. let found = a.1 is in (found.0, subst (λ x. x ≡ told_bytes (done (closed found.0))) (ap (λ x. drop 12 x) same ∙ reply_in id reply) found.1),
+)
+answered_by answers s request id after output output_after out (turn.Ended end.Over) reply carried_out same written a = absurd a
+answered_by answers s request id after output output_after out (turn.Ended (end.Fault with_id why)) reply carried_out same written a = absurd a
+answered_by answers s request id after output output_after out (turn.Ended (end.OutputFailed with_id)) reply carried_out same written a = absurd a
+answered_by answers s request id after output output_after out (turn.Ended end.NotWrittenOut) reply carried_out same written a = absurd a
+
+-- a close that was read and answered
+ends_by_close : {S : Type 0} (answers : S → Ask → Told → S → Type 0) (before : Point S) (after : S) (input output : Option (List ℕ)) (frame : List ℕ) (id : ℕ) (request : Ask) (is_flushed : Bool)
+    → ReadsFrame true before.input input frame → Asks before.last frame id request
+    → (request ≡ close) × (is : IsAnswered answers before.state request id after before.output output) × (IsTrue is_flushed → SaysClosed is.0)
+    → (last : Exchange answers before close (point id after input output)) × (IsTrue is_flushed → SaysClosed last.reply)
+unfolding exchange
+ends_by_close answers before after input output frame id request is_flushed reads asks a =
+    subst (λ q. (last : Exchange answers before q (point id after input output)) × (IsTrue is_flushed → SaysClosed last.reply)) a.0
+    (exchange answers before after input output frame id request reads asks a.1, a.2)
+
 -- a frame that was read, under another name
 pub whole : (before after : Option (List ℕ)) (is : Bool) (frame read : List ℕ) → is ≡ true → frame ≡ read → ReadsFrame is before after read
     → ReadsFrame true before after frame
@@ -36,24 +76,48 @@ pub carried : {S : Type 0} (answers : S → Ask → Told → S → Type 0) (befo
     → Turns answers before after input output t
 carried answers before after input output frame id request (turn.Answered next) reads asks a =
     (request, a.1, subst (λ n. Exchange answers before request (point n after input output)) (sym a.0) (exchange answers before after input output frame id request reads asks a.2))
-carried answers before after input output frame id request (turn.Ended end.Closed) reads asks a =
-    (id, subst (λ q. Exchange answers before q (point id after input output)) a.0 (exchange answers before after input output frame id request reads asks a.1))
+carried answers before after input output frame id request (turn.Ended (end.Closed is_flushed)) reads asks a =
+    let closes = ends_by_close answers before after input output frame id request is_flushed reads asks a in
+    (id, closes.0, closes.1)
 carried answers before after input output frame id request (turn.Ended end.Over) reads asks a = absurd a
 carried answers before after input output frame id request (turn.Ended (end.Fault with_id why)) reads asks a =
-    (a.2, subst (λ w. Breaks answers before after input with_id w) (sym a.1) (unsaid (request, a.3.0, a.3.1)))
-carried answers before after input output frame id request (turn.Ended end.OutputFailed) reads asks a = (request, a.0, a.1)
+    (a.2, subst (λ w. Breaks answers before after input with_id w) (sym a.1) (unsaid (carries_out answers before after input frame id with_id request a.3.0 reads asks a.0 a.3.1)))
+carried answers before after input output frame id request (turn.Ended (end.OutputFailed with_id)) reads asks a =
+    carries_out answers before after input frame id with_id request a.1.0 reads asks a.0 a.1.1
+carried answers before after input output frame id request (turn.Ended end.NotWrittenOut) reads asks a = absurd a
 
 -- a turn that ends the session, after exchanges
-pub ended : {S : Type 0} (answers : S → Ask → Told → S → Type 0) (start : Point S) (last : ℕ) (state after : S) (input output input_after output_after : Option (List ℕ)) (t : Turn) (how : End)
-    → Exchanges answers start (point last state input output) → t ≡ turn.Ended how → Turns answers (point last state input output) after input_after output_after t
-    → Serves answers start after input_after output_after how
-ended answers start last state after input output input_after output_after t how so_far is turns =
+pub ended : {S : Type 0} (answers : S → Ask → Told → S → Type 0) (works : S → S → Type 0) (start : Point S) (last : ℕ) (state after : S) (input output input_after output_after : Option (List ℕ)) (t : Turn) (how : End)
+    → Exchanges answers works start (point last state input output) → t ≡ turn.Ended how → Turns answers (point last state input output) after input_after output_after t
+    → Serves answers works start after input_after output_after how
+ended answers works start last state after input output input_after output_after t how so_far is turns =
     (point last state input output, so_far, subst (λ x. Turns answers (point last state input output) after input_after output_after x) is turns)
 
 -- a turn that answers, after exchanges
-pub answered : {S : Type 0} (answers : S → Ask → Told → S → Type 0) (start : Point S) (before : Point S) (after : S) (input output : Option (List ℕ)) (t : Turn) (id : ℕ)
-    → Exchanges answers start before → t ≡ turn.Answered id → Turns answers before after input output t
-    → Exchanges answers start (point id after input output)
-answered answers start before after input output t id so_far is turns =
+pub answered : {S : Type 0} (answers : S → Ask → Told → S → Type 0) (works : S → S → Type 0) (start : Point S) (before : Point S) (after : S) (input output : Option (List ℕ)) (t : Turn) (id : ℕ)
+    → Exchanges answers works start before → t ≡ turn.Answered id → Turns answers before after input output t
+    → Exchanges answers works start (point id after input output)
+answered answers works start before after input output t id so_far is turns =
     let a : Turns answers before after input output (turn.Answered id) = subst (λ x. Turns answers before after input output x) is turns in
     more so_far a.2 a.1
+
+-- steps of the service, and further ones
+pub rested : {S : Type 0} (works : S → S → Type 0) (a b c : S) → Rests works a b → Rests works b c → Rests works a c
+rested works a b c first idle = first
+rested works a b c first (step {middle = m} next turn) = step (rested works a b m first next) turn
+
+pub one_step : {S : Type 0} (works : S → S → Type 0) (a b : S) → works a b → Rests works a b
+one_step works a b turn = step idle turn
+
+-- a pause, after exchanges
+pub paused : {S : Type 0} (answers : S → Ask → Told → S → Type 0) (works : S → S → Type 0) (start : Point S) (last : ℕ) (state after : S) (input output output_after : Option (List ℕ))
+    → Exchanges answers works start (point last state input output) → Rests works state after → Keeps output output_after
+    → Exchanges answers works start (point last after input output_after)
+paused answers works start last state after input output output_after so_far rest keeps = writes_out (rests so_far rest) keeps
+
+-- a pause in which the writer failed, after exchanges
+pub cut_off : {S : Type 0} (answers : S → Ask → Told → S → Type 0) (works : S → S → Type 0) (start : Point S) (last : ℕ) (state after : S) (input output output_after : Option (List ℕ))
+    → Exchanges answers works start (point last state input output) → Rests works state after
+    → Serves answers works start after input output_after end.NotWrittenOut
+cut_off answers works start last state after input output output_after so_far rest =
+    (point last after input output, rests so_far rest, (refl, refl))

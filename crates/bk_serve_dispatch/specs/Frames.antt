@@ -1,4 +1,5 @@
--- Which frames are requests of a session, and why the others end it. Read `Asks` and `Faults` first.
+-- Which frames are requests of a session, and why the others end it. Read `Asks` and `Faults`
+-- first.
 use Rattle.std.specs.Prelude.{◌≡◌, ℕ, ◌≤◌, ◌<◌, List, ◌++◌, Bool, true, false, Ok, Err}
 use Rattle.std.specs.Int.{w64, to_be_bytes}
 use Rattle.bk_serve_core.specs.declared.fault.Fault.{Fault}
@@ -11,7 +12,8 @@ abbrev pub is_hello : Ask → Bool
 is_hello (hello magic lowest highest) = true
 is_hello _ = false
 
--- the frame is this id and the bytes of this request, which comes after the request with the id `last`
+-- the frame is this id and the bytes of this request, which comes after the request with the id
+-- `last`
 pub record Asks (last : ℕ) (frame : List ℕ) (id : ℕ) (request : Ask) : Type 0 where
   pub bytes : frame ≡ to_be_bytes w64 id ++ ask_bytes request
   pub rises : last < id

@@ -84,7 +84,7 @@ pub fn greet<R: Read, W: Write>(
         });
     }
     if write_frames(writer, &buffers.out).is_err() {
-        return Err(End::OutputFailed);
+        return Err(End::OutputFailed { id });
     }
     Ok(id)
 }

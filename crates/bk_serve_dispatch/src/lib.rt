@@ -3,12 +3,14 @@
 
 mod ending;
 mod greeting;
+mod input;
 mod judging;
 mod service;
 mod session;
 
 pub use ending::{End, finish, tell_end};
 pub use greeting::greet;
+pub use input::{Input, Source};
 pub use judging::judge;
 pub use service::Service;
 pub use session::{Buffers, serve_requests};

@@ -1,15 +1,20 @@
 //! A session after its hello.
 
-ghost use Rattle.std.specs.Prelude.{◌≡◌};
-ghost use Rattle.bk_serve_dispatch.specs.Session.{Answers, Serves, Turns, point};
+ghost use Rattle.std.specs.Prelude.{◌≡◌, IsTrue};
+ghost use Rattle.std.specs.Io.KnownBytes.{Keeps};
+ghost use Rattle.bk_serve_dispatch.specs.Session.{Answers, IsTurnAfter, Rests, Serves, Turns, point};
 ghost use Rattle.bk_serve_core.specs.Requests.{ask};
 
-use crate::ending::End;
+use crate::ending::{End, closed_in};
+use crate::input::Input;
 use crate::judging::judge;
 use crate::service::Service;
-use bk_serve_core::{Ended, FrameFault, LONGEST_FRAME, Request, read_frame, write_frames};
+use bk_serve_core::{Ended, FrameFault, LONGEST_FRAME, Request, read_frame};
 use std::alloc::Global;
 use std::io::{Read, Write};
+
+/// Number of requests after which a step of the service is due although requests wait.
+const PATIENCE: u64 = 256;
 
 /// Memory that a session uses again for each frame.
 #[derive(Drop)]
@@ -52,7 +57,19 @@ pub(crate) fn unread(fault: FrameFault) -> Ended {
     }
 }
 
-/// Carries out a request and writes its reply.
+/// Returns what a turn does whose request was answered by this frame.
+fn turn_after(id: u64, request: &Request<'_>, reply: &[u8]) -> Turn
+    ensures { IsTurnAfter id (ask request.now) reply.now result }
+{
+    match request {
+        Request::Close => Turn::Ended(End::Closed {
+            is_flushed: closed_in(reply).is_some(),
+        }),
+        _ => Turn::Answered(id),
+    }
+}
+
+/// Carries out a request and writes its reply, which the writer may keep back.
 fn answer<S: Service, W: Write>(
     service: &mut S,
     writer: &mut W,
@@ -69,14 +86,10 @@ fn answer<S: Service, W: Write>(
             ended: Ended::NoMemory,
         });
     }
-    if write_frames(writer, out).is_err() {
-        return Turn::Ended(End::OutputFailed);
+    if writer.write_all(out).is_err() {
+        return Turn::Ended(End::OutputFailed { id });
     }
-    if matches!(request, Request::Close) {
-        Turn::Ended(End::Closed)
-    } else {
-        Turn::Answered(id)
-    }
+    turn_after(id, request, out)
 }
 
 /// Reads a frame, carries out its request and writes the reply.
@@ -106,22 +119,71 @@ fn take_turn<S: Service, R: Read, W: Write>(
     }
 }
 
+/// Performs steps of the service as long as no input waits.
+fn rest<S: Service, R: Input>(service: &mut S, reader: &R)
+    ensures { Rests S.works service.old service.new }
+{
+    for _ in 0..u64::MAX {
+        if reader.is_waiting() || !service.is_due() {
+            return;
+        }
+        service.work();
+    }
+}
+
+/// Performs a step of the service before each 256th request.
+fn nudge<S: Service>(service: &mut S, number: u64)
+    ensures { Rests S.works service.old service.new }
+{
+    if number % PATIENCE == 0 {
+        service.work();
+    }
+}
+
+/// Writes out what the writer has kept back, unless the next frame is there. Then performs steps of
+/// the service as long as no input waits. Returns whether the writer did not fail.
+fn pause<S: Service, R: Input, W: Write>(
+    service: &mut S,
+    reader: &R,
+    writer: &mut W,
+    number: u64,
+) -> bool
+    ensures state { Rests S.works service.old service.new }
+    ensures output { IsTrue result → Keeps (W.contents writer.old) (W.contents writer.new) }
+{
+    nudge(service, number);
+    if reader.has_frame() {
+        return true;
+    }
+    if writer.flush().is_err() {
+        return false;
+    }
+    rest(service, reader);
+    true
+}
+
 /// Serves the requests after a hello with the id `first`, until a close, the end of the input or a
-/// fault. Each request is answered by one frame with its id before the next one is read.
+/// fault. Each request is answered by one frame with its id before the next one is read. The writer
+/// may keep replies back as long as the next frame is there.
+///
+/// The service performs steps of its own while no input waits, and one after every 256 requests.
 ///
 /// The fault of a frame is not written: see `finish`.
-pub fn serve_requests<S: Service, R: Read, W: Write>(
+pub fn serve_requests<S: Service, R: Input, W: Write>(
     service: &mut S,
     reader: &mut R,
     writer: &mut W,
     first: u64,
     buffers: &mut Buffers,
 ) -> End
-    ensures { Serves S.answers (point first service.old (R.remaining reader.old) (W.contents writer.old))
+    ensures { Serves S.answers S.works (point first service.old (R.remaining reader.old) (W.contents writer.old))
         service.new (R.remaining reader.new) (W.contents writer.new) result }
 {
     let mut last = first;
-    for _ in 0..u64::MAX {
+    for number in 1..u64::MAX {
+        if !pause(service, reader, writer, number) {
+            return End::NotWrittenOut;
+        }
         match take_turn(service, reader, writer, last, buffers) {
             Turn::Answered(id) => last = id,
             Turn::Ended(end) => return end,

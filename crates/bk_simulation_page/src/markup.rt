@@ -25,8 +25,10 @@ h2 { font-size: 1.15rem; margin: 2.2rem 0 .4rem; }
 .scroll { overflow-x: auto; }
 table { border-collapse: collapse; width: 100%; font-variant-numeric: tabular-nums; font-size: .9rem; }
 th, td { padding: .25rem .42rem; text-align: right; border-bottom: 1px solid var(--line); white-space: nowrap; }
-th { font-weight: 600; color: var(--quiet); }
+th { font-weight: 600; color: var(--quiet); white-space: normal; vertical-align: bottom; }
+th[colspan] { text-align: center; }
 th.text, td.text { text-align: left; }
+th.name, td.name { text-align: left; position: sticky; left: 0; background: var(--paper); }
 svg { display: block; width: 100%; max-width: 52rem; margin: .4rem 0 .8rem; }
 svg text { fill: var(--quiet); font: 12px system-ui, sans-serif; }
 .grid { stroke: var(--line); }
@@ -35,6 +37,10 @@ polyline { fill: none; stroke-width: 2; }
 .disk { stroke: var(--disk); color: var(--disk); }
 .logs { stroke: var(--logs); color: var(--logs); }
 span.live, span.disk, span.logs { font-weight: 600; }
+@media (max-width: 40rem) {
+  body { padding: 1rem; }
+  svg text { font-size: 20px; }
+}
 ";
 
 pub(crate) static BEGIN: &str = "</style>
@@ -43,13 +49,16 @@ pub(crate) static BEGIN: &str = "</style>
 <header>
 <h1>Simulation of a bookie</h1>
 <p class=\"quiet\">The store ran over a disk that keeps lengths and keys of records, and no data. Each
-simulated record stands for the entries of one ledger that the last column names.</p>
+simulated record represents as many entries of one ledger as the last column says. Thresholds are in
+thousandths. Means, and the peak of the amplification of space, are those of the second half of a
+run. A hold of the lock is counted in instructions; one in a thousand takes more than the first of
+the two numbers.</p>
 </header>
 <main>
 ";
 
 pub(crate) static KEY_BYTES: &str =
-    "<p><span class=\"disk\">bytes of all logs</span>, <span class=\"live\">of them live</span></p>
+    "<span class=\"disk\">all logs</span>, <span class=\"live\">live records</span></p>
 ";
 
 pub(crate) static KEY_LOGS: &str = "<p><span class=\"logs\">logs that are held</span></p>
@@ -57,7 +66,7 @@ pub(crate) static KEY_LOGS: &str = "<p><span class=\"logs\">logs that are held</
 
 pub(crate) static FOOT: &str = "</main>
 <footer class=\"quiet\">
-<p>1 MiB is 1,048,576 bytes. This page loads nothing and runs no script.</p>
+<p>1 KiB is 1,024 bytes, 1 MiB 1,024 KiB, 1 GiB 1,024 MiB. This page loads nothing and runs no script.</p>
 </footer>
 </body>
 </html>

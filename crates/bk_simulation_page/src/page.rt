@@ -1,21 +1,67 @@
 //! The page: the table, and the curves of each run.
 
 use crate::markup;
-use crate::picture::{Curve, write_picture};
+use crate::picture::{Curve, DAY, Point, write_picture};
 use crate::table::{write_name, write_table};
+use bk_report::write_number;
 use bk_simulation::Outcome;
 use std::alloc::{AllocError, Global};
 use std::io;
 use std::io::Write;
 
+/// Bytes of a KiB.
+const KIB: u64 = 1024;
+
+/// Bytes of a MiB.
+const MIB: u64 = 1_048_576;
+
 /// Bytes of a GiB.
 const GIB: u64 = 1_073_741_824;
 
-/// Seconds of a day.
-const DAY: u64 = 86_400;
+/// How many units a curve has at least, if there is a smaller unit.
+const FINE: u64 = 64;
 
-/// Writes the runs as an HTML page: a table, and of each run the bytes of the logs in GiB and their
-/// number over its days. The page loads nothing and runs no script.
+/// The unit of a curve of bytes.
+#[derive(Clone, Copy)]
+enum Unit {
+    Kib,
+    Mib,
+    Gib,
+}
+
+impl Unit {
+    /// Returns the unit of a curve with this peak.
+    fn of(peak: u64) -> Unit {
+        if peak < FINE * MIB {
+            Unit::Kib
+        } else if peak < FINE * GIB {
+            Unit::Mib
+        } else {
+            Unit::Gib
+        }
+    }
+
+    /// Returns bytes in this unit.
+    fn amount(self, bytes: u64) -> u64 {
+        match self {
+            Unit::Kib => bytes / KIB,
+            Unit::Mib => bytes / MIB,
+            Unit::Gib => bytes / GIB,
+        }
+    }
+
+    /// Returns its name.
+    fn name(self) -> &'static str {
+        match self {
+            Unit::Kib => "KiB",
+            Unit::Mib => "MiB",
+            Unit::Gib => "GiB",
+        }
+    }
+}
+
+/// Writes the runs as an HTML page: a table, and of each run the bytes of the logs and their number
+/// over its days. The page loads nothing and runs no script.
 ///
 /// # Errors
 ///
@@ -33,25 +79,46 @@ pub fn write_page<W: Write>(alloc: Global, out: &mut W, outcomes: &[Outcome]) ->
 
 /// Writes the section of a run.
 fn write_run<W: Write>(alloc: Global, out: &mut W, outcome: &Outcome) -> io::Result<()> {
+    out.write_all(b"<section>\n")?;
+    write_head(out, outcome)?;
+    let unit = Unit::of(outcome.peak_disk);
+    let Ok(curves) = curves_of(alloc, outcome, unit) else {
+        return Err(io::ErrorKind::OutOfMemory.into());
+    };
+    let seconds = outcome.plan.load.seconds;
+    write!(out, "<p>{}: ", unit.name())?;
+    out.write_all(markup::KEY_BYTES.as_bytes())?;
+    write_picture(
+        out,
+        "bytes of logs by day",
+        curves.bytes.as_slice(),
+        seconds,
+    )?;
+    out.write_all(markup::KEY_LOGS.as_bytes())?;
+    write_picture(out, "logs by day", curves.logs.as_slice(), seconds)?;
+    out.write_all(b"</section>\n")
+}
+
+/// Writes the head of a section: the settings, and when the slots were full, if they were.
+fn write_head<W: Write>(out: &mut W, outcome: &Outcome) -> io::Result<()> {
     let settings = outcome.plan.upkeep.settings;
-    let days = outcome.plan.load.seconds / DAY;
-    out.write_all(b"<section>\n<h2>Retention ")?;
+    out.write_all(b"<h2>Retention ")?;
     write_name(out, outcome)?;
     let minor = settings.minor;
     let major = settings.major;
-    let log_limit = settings.log_limit;
-    write!(
-        out,
-        " days, thresholds {minor} and {major}, log limit {log_limit}</h2>\n"
-    )?;
-    let Ok(curves) = curves_of(alloc, outcome) else {
-        return Err(io::ErrorKind::OutOfMemory.into());
-    };
-    out.write_all(markup::KEY_BYTES.as_bytes())?;
-    write_picture(out, "GiB of logs by day", curves.bytes.as_slice(), days)?;
-    out.write_all(markup::KEY_LOGS.as_bytes())?;
-    write_picture(out, "logs by day", curves.logs.as_slice(), days)?;
-    out.write_all(b"</section>\n")
+    write!(out, " days, thresholds {minor} and {major}, log limit ")?;
+    write_number(out, u64::from(settings.log_limit))?;
+    out.write_all(b"</h2>\n")?;
+    if let Some(second) = outcome.full_at {
+        let tenths = second.saturating_mul(10) / DAY;
+        let day = tenths / 10;
+        let part = tenths % 10;
+        write!(
+            out,
+            "<p>The run ended on day {day}.{part}: no slot for a further log was free.</p>\n"
+        )?;
+    }
+    Ok(())
 }
 
 /// The curves of a run.
@@ -61,24 +128,33 @@ struct Curves {
     logs: Vec<Curve>,
 }
 
-/// Returns the curves of a run.
-fn curves_of(alloc: Global, outcome: &Outcome) -> Result<Curves, AllocError> {
-    let mut disk = Curve {
-        class: "disk",
-        values: Vec::new(alloc),
-    };
-    let mut live = Curve {
-        class: "live",
-        values: Vec::new(alloc),
-    };
-    let mut logs = Curve {
-        class: "logs",
-        values: Vec::new(alloc),
-    };
+/// Returns a curve without points.
+fn curve(alloc: Global, class: &'static str) -> Curve {
+    Curve {
+        class,
+        points: Vec::new(alloc),
+    }
+}
+
+/// Returns the curves of a run, its bytes in a unit.
+fn curves_of(alloc: Global, outcome: &Outcome, unit: Unit) -> Result<Curves, AllocError> {
+    let mut disk = curve(alloc, "disk");
+    let mut live = curve(alloc, "live");
+    let mut logs = curve(alloc, "logs");
     for sample in &outcome.samples {
-        disk.values.push(sample.disk / GIB)?;
-        live.values.push(sample.live / GIB)?;
-        logs.values.push(sample.logs)?;
+        let time = sample.time;
+        disk.points.push(Point {
+            time,
+            amount: unit.amount(sample.disk),
+        })?;
+        live.points.push(Point {
+            time,
+            amount: unit.amount(sample.live),
+        })?;
+        logs.points.push(Point {
+            time,
+            amount: sample.logs,
+        })?;
     }
     Ok(Curves {
         bytes: vec![in alloc; disk, live]?,

@@ -4,6 +4,9 @@ use bk_report::write_number;
 use std::io;
 use std::io::Write;
 
+/// Seconds of a day.
+pub(crate) const DAY: u64 = 86_400;
+
 /// The place of the curves in their picture.
 const LEFT: u64 = 90;
 
@@ -13,14 +16,24 @@ const BOTTOM: u64 = 220;
 
 const HEIGHT: u64 = 200;
 
-/// Number of lines across the picture, beside the lowest.
+/// The most lines across the picture, beside the lowest.
 const LEVELS: u64 = 4;
 
-/// A curve: the class of its line, and its values.
+/// The most days that are named below the picture, beside the first.
+const DAYS: u64 = 5;
+
+/// A point of a curve: seconds since the begin of the run, and what there was then.
+#[derive(Clone, Copy)]
+pub(crate) struct Point {
+    pub time: u64,
+    pub amount: u64,
+}
+
+/// A curve: the class of its line, and its points.
 #[derive(Drop)]
 pub(crate) struct Curve {
     pub class: &'static str,
-    pub values: Vec<u64>,
+    pub points: Vec<Point>,
 }
 
 /// Returns a part of a length, as an amount is of the most; at most the length.
@@ -30,23 +43,44 @@ fn scaled(amount: u64, most: u64, length: u64) -> u64 {
     scaled.min(u128::from(length)) as u64
 }
 
+/// Returns the place of a time from the left, in a run of these seconds.
+fn place(time: u64, seconds: u64) -> u64 {
+    LEFT.saturating_add(scaled(time, seconds, WIDTH))
+}
+
 /// Returns the place of an amount from the top.
 fn level(amount: u64, most: u64) -> u64 {
     BOTTOM.saturating_sub(scaled(amount, most, HEIGHT))
 }
 
-/// Returns the amount of the highest line, a multiple of the number of lines.
-fn top_of(curves: &[Curve]) -> u64 {
+/// Returns the greatest amount of the curves.
+fn most_of(curves: &[Curve]) -> u64 {
     let mut most = 0u64;
     for curve in curves {
-        for value in &curve.values {
-            most = most.max(*value);
+        for point in &curve.points {
+            most = most.max(point.amount);
         }
     }
-    most.div_ceil(LEVELS).max(1).saturating_mul(LEVELS)
+    most
 }
 
-/// Writes a picture of curves whose values are spread evenly over these days, in this unit.
+/// Returns a round number, 1, 2 or 5 times a power of ten, which is not less than this one.
+fn round_step(least: u64) -> u64 {
+    let mut step = 1u64;
+    for turn in 0..58u32 {
+        if step >= least {
+            return step;
+        }
+        step = if turn % 3 == 1 {
+            (step / 2).saturating_mul(5)
+        } else {
+            step.saturating_mul(2)
+        };
+    }
+    least
+}
+
+/// Writes a picture of curves over a run of these seconds.
 ///
 /// # Errors
 ///
@@ -55,20 +89,21 @@ pub(crate) fn write_picture<W: Write>(
     out: &mut W,
     title: &'static str,
     curves: &[Curve],
-    days: u64,
+    seconds: u64,
 ) -> io::Result<()> {
-    let most = top_of(curves);
-    out.write_all(b"<svg role=\"img\" viewBox=\"0 0 780 250\"><title>")?;
+    let most = most_of(curves);
+    let step = round_step(most.div_ceil(LEVELS)).max(1);
+    let levels = most.div_ceil(step).max(1);
+    let top = step.saturating_mul(levels);
+    out.write_all(b"<svg role=\"img\" viewBox=\"0 0 800 256\"><title>")?;
     out.write_all(title.as_bytes())?;
     out.write_all(b"</title>\n")?;
-    for number in 0..=LEVELS {
-        write_level(out, (most / LEVELS).saturating_mul(number), most)?;
+    for number in 0..=levels {
+        write_level(out, step.saturating_mul(number), top)?;
     }
-    for number in 0..=5u64 {
-        write_day(out, days.saturating_mul(number) / 5, days)?;
-    }
+    write_days(out, seconds)?;
     for curve in curves {
-        write_curve(out, curve, most)?;
+        write_curve(out, curve, top, seconds)?;
     }
     out.write_all(b"</svg>\n")
 }
@@ -86,27 +121,37 @@ fn write_level<W: Write>(out: &mut W, amount: u64, most: u64) -> io::Result<()> 
     out.write_all(b"</text>\n")
 }
 
+/// Writes days below the picture.
+fn write_days<W: Write>(out: &mut W, seconds: u64) -> io::Result<()> {
+    let days = seconds / DAY;
+    let step = days.div_ceil(DAYS).max(1);
+    for number in 0..=DAYS {
+        let day = step.saturating_mul(number);
+        if day <= days {
+            write_day(out, day, seconds)?;
+        }
+    }
+    Ok(())
+}
+
 /// Writes a day below the picture.
-fn write_day<W: Write>(out: &mut W, day: u64, days: u64) -> io::Result<()> {
-    let at = LEFT.saturating_add(scaled(day, days, WIDTH));
+fn write_day<W: Write>(out: &mut W, day: u64, seconds: u64) -> io::Result<()> {
+    let at = place(day.saturating_mul(DAY), seconds);
     write!(
         out,
-        "<text x=\"{at}\" y=\"240\" text-anchor=\"middle\">day {day}</text>\n"
+        "<text x=\"{at}\" y=\"244\" text-anchor=\"middle\">day {day}</text>\n"
     )
 }
 
 /// Writes a curve.
-fn write_curve<W: Write>(out: &mut W, curve: &Curve, most: u64) -> io::Result<()> {
+fn write_curve<W: Write>(out: &mut W, curve: &Curve, most: u64, seconds: u64) -> io::Result<()> {
     out.write_all(b"<polyline class=\"")?;
     out.write_all(curve.class.as_bytes())?;
     out.write_all(b"\" points=\"")?;
-    let last = (curve.values.len() as u64).saturating_sub(1);
-    let mut number = 0u64;
-    for value in &curve.values {
-        let from_left = LEFT.saturating_add(scaled(number, last, WIDTH));
-        let from_top = level(*value, most);
+    for point in &curve.points {
+        let from_left = place(point.time, seconds);
+        let from_top = level(point.amount, most);
         write!(out, "{from_left},{from_top} ")?;
-        number = number.saturating_add(1);
     }
     out.write_all(b"\"/>\n")
 }

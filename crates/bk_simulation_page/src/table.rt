@@ -1,18 +1,37 @@
 //! The table of the runs.
 
+use crate::picture::DAY;
 use bk_report::write_number;
 use bk_simulation::Outcome;
 use std::io;
 use std::io::Write;
 
+/// Bytes of a KiB.
+const KIB: u64 = 1024;
+
 /// Bytes of a MiB.
 const MIB: u64 = 1_048_576;
 
-/// Seconds of a day.
-const DAY: u64 = 86_400;
-
-static HEAD: &str = "<div class=\"scroll\"><table>
-<tr><th class=\"text\">retention, days</th><th>minor</th><th>major</th><th>log MiB</th><th>write amplification</th><th>space amplification</th><th>peak</th><th>logs</th><th>peak</th><th>index MiB</th><th>compactions</th><th>moved MiB</th><th>99.9 % hold</th><th>longest hold</th><th class=\"text\">call</th><th>entries a record</th></tr>
+static HEAD: &str =
+    "<div class=\"scroll\" tabindex=\"0\" role=\"region\" aria-label=\"runs\"><table>
+<tr>
+<th class=\"name\" rowspan=\"2\">retention, days</th>
+<th colspan=\"2\">thresholds</th>
+<th rowspan=\"2\">log limit, KiB</th>
+<th colspan=\"3\">amplification</th>
+<th colspan=\"2\">logs</th>
+<th rowspan=\"2\">index, MiB</th>
+<th colspan=\"2\">compactions</th>
+<th colspan=\"3\">holds</th>
+<th rowspan=\"2\">entries a record</th>
+</tr>
+<tr>
+<th>minor</th><th>major</th>
+<th>write</th><th>space</th><th>peak</th>
+<th>mean</th><th>peak</th>
+<th>number</th><th>moved, MiB</th>
+<th>99.9 %</th><th>longest</th><th class=\"text\">call</th>
+</tr>
 ";
 
 /// Writes the table.
@@ -24,7 +43,7 @@ pub(crate) fn write_table<W: Write>(out: &mut W, outcomes: &[Outcome]) -> io::Re
     out.write_all(b"</table></div>\n")
 }
 
-/// Writes a run: its retention and its thresholds in thousandths.
+/// Writes the name of a run: its retention.
 pub(crate) fn write_name<W: Write>(out: &mut W, outcome: &Outcome) -> io::Result<()> {
     let retention = outcome.plan.load.retention;
     let days = retention.mean / DAY;
@@ -35,12 +54,12 @@ pub(crate) fn write_name<W: Write>(out: &mut W, outcome: &Outcome) -> io::Result
 /// Writes a row.
 fn write_row<W: Write>(out: &mut W, outcome: &Outcome) -> io::Result<()> {
     let settings = outcome.plan.upkeep.settings;
-    out.write_all(b"<tr><td class=\"text\">")?;
+    out.write_all(b"<tr><td class=\"name\">")?;
     write_name(out, outcome)?;
     out.write_all(b"</td>")?;
     write_cell(out, u64::from(settings.minor))?;
     write_cell(out, u64::from(settings.major))?;
-    write_cell(out, u64::from(settings.log_limit) / MIB)?;
+    write_cell(out, u64::from(settings.log_limit) / KIB)?;
     write_ratio(out, outcome.write_amplification())?;
     write_ratio(out, outcome.space_amplification())?;
     write_ratio(out, outcome.peak_space_amplification())?;

@@ -1,18 +1,20 @@
 -- The logical contents survive a crash: the invariant has all premises of the theorem.
-use Rattle.std.proofs.Common.{◌≡◌, ◌⊎◌, inl, inr, ℕ, Bool, true, false, cond, IsTrue, List, [], Option, Some, refl, sym, ap, subst}
+use Rattle.std.proofs.Common.{◌≡◌, ◌⊎◌, inl, inr, ℕ, Bool, true, false, cond, is_some, IsTrue, List, [], Option, Some, refl, sym, ap, subst, ◌∙◌}
 use Rattle.std.specs.Option.{option_map_or}
 use Rattle.std.specs.FinMap as finite
 use Rattle.bk_record.specs.Files.{Files}
 use Rattle.bk_record.specs.Longer.{IsLonger}
 use Rattle.bk_disk.specs.Durable.{IsDurable}
+use Rattle.sha2.specs.Sha256.{sha256}
 use Rattle.bk_store.specs.Logs.{View, Log, is_open, open_parts, published_part}
 use Rattle.bk_store.specs.State.{StoreParts}
 use Rattle.bk_store.specs.Invariant.{StoreInvariant, ContentInvariant}
 use Rattle.bk_store.specs.Crash.{AreSynced}
-use Rattle.bk_store.specs.CrashSafety.{SurvivesCrash}
+use Rattle.bk_store.specs.CrashSafety.{SurvivesCrash, DurableMarksSurvive}
 use Rattle.bk_store.proofs.Cases.{some_or_none}
 use Rattle.bk_store.proofs.RepresentedContents.{carries_meaning}
 use Rattle.bk_store.proofs.CrashOpened.{reopened}
+use Rattle.bk_store.proofs.DurableMarks.{marked_entry, durable_entry}
 
 -- what a log shows, where keys may point into it
 abbrev shown_part : Log → List ℕ
@@ -57,4 +59,20 @@ survives_crash p keeps honest =
       (λ left settings dead t leaves opened stay.
           reopened p.state t reveal_invariant.map.carried p.gone p.synced left settings dead reveal_invariant.map.carries reveal_invariant.shows reveal_invariant.map.harmless
           (synced_parts p reveal_invariant) leaves opened stay),
+    )
+
+pub durable_survive : (p : StoreParts) → StoreInvariant p → IsTrue p.state.honest → DurableMarksSurvive p.synced p.gone p.state
+durable_survive p keeps honest left settings dead t leaves opened stay =
+    let reveal_invariant = keeps.promises honest in
+    let again = reopened p.state t reveal_invariant.map.carried p.gone p.synced left settings dead reveal_invariant.map.carries reveal_invariant.shows
+    reveal_invariant.map.harmless (synced_parts p reveal_invariant) leaves opened stay in (
+      again.0,
+      again.1.0,
+      (λ number key digest below at alive lives.
+          let had = marked_entry p keeps honest number key digest at alive in
+          let entry = durable_entry p keeps honest number key digest below at alive in
+          let kept = again.1.1.published key (ap is_some entry.sent) lives in
+          let both : Some had.0 ≡ Some kept.0 = sym had.1 ∙ kept.1 in
+          let one : had.0 ≡ kept.0 = cc in
+          (kept.0, kept.2, had.2 ∙ ap sha256 one)),
     )

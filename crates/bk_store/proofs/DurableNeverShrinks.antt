@@ -48,5 +48,6 @@ pub keeps_on : (p q : StoreParts) → StoreInvariant p → DurableNeverShrinks p
 keeps_on p q keeps on = record {
   fits = keeps.fits;
   job = keeps.job;
+  fronts = keeps.fronts;
   promises = λ honest. promises_on p q.synced q.gone (on honest) (keeps.promises honest);
 }

@@ -38,7 +38,7 @@ slots_opened keeper slot state free = record {
 pub still_all : (s : State) → FrameUnchanged s s
 still_all s = (
   record { settings = refl; ledgers = refl; gone = gone_same s s refl refl },
-  record { active = refl; flush = refl },
+  record { active = refl; flush = refl; fronts = refl },
   slots_same s.keeper s.keeper refl,
 )
 
@@ -58,7 +58,7 @@ stays_then first second = record {
 pub then : {s t u : State} → FrameUnchanged s t → FrameUnchanged t u → FrameUnchanged s u
 then first second = (
   stays_then first.0 second.0,
-  record { active = second.1.active ∙ first.1.active; flush = second.1.flush ∙ first.1.flush },
+  record { active = second.1.active ∙ first.1.active; flush = second.1.flush ∙ first.1.flush; fronts = second.1.fronts ∙ first.1.fronts },
   slots_then first.2 second.2,
 )
 
@@ -71,7 +71,7 @@ still_beside s t files failures places index job is =
     let u : State = record s { files = files; failures = failures; places = places; index = index; job = job } in
     still_as {s = s} {u = u} ((
       record { settings = refl; ledgers = refl; gone = gone_same s u refl refl },
-      record { active = refl; flush = refl },
+      record { active = refl; flush = refl; fronts = refl },
       slots_same s.keeper u.keeper refl,
     )) t is
 
@@ -82,7 +82,7 @@ still_log s t files failures id was now held is =
     let u : State = record s { files = files; failures = failures; logs = finite.insert s.logs id now } in
     still_as {s = s} {u = u} ((
       record { settings = refl; ledgers = refl; gone = gone_changed s u id was now held refl refl },
-      record { active = refl; flush = refl },
+      record { active = refl; flush = refl; fronts = refl },
       slots_same s.keeper u.keeper refl,
     )) t is
 
@@ -93,6 +93,6 @@ still_ruled s t places rule changed is =
     let u : State = record s { logs = t.logs; places = places } in
     still_as {s = s} {u = u} ((
       record { settings = refl; ledgers = refl; gone = gone_ruled s u rule changed refl },
-      record { active = refl; flush = refl },
+      record { active = refl; flush = refl; fronts = refl },
       slots_same s.keeper u.keeper refl,
     )) t is

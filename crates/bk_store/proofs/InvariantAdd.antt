@@ -24,8 +24,9 @@ use Rattle.bk_store.proofs.KeyMaps.{get-insert_other, inserted_here}
 use Rattle.bk_store.proofs.RepresentedContents.{unheld_unmapped}
 use Rattle.bk_store.proofs.CachedMoves.{carries_added}
 use Rattle.bk_store.proofs.RemovedFiles.{harmless_added}
-use Rattle.bk_store.proofs.TrailMoves.{replays_added, follows_added}
+use Rattle.bk_store.proofs.TrailMoves.{never_came, replays_added, follows_added}
 use Rattle.bk_store.proofs.InvariantParts.{with_state, keeps_same}
+use Rattle.bk_store.proofs.FrontMoves.{fronts_added}
 
 not_held : (s : State) (key : EntryKey) → holds s key ≡ false → (written_at s key ≡ None) × (finite.get s.index key ≡ None)
 not_held s key is =
@@ -96,6 +97,10 @@ module _ (p : StoreParts) (payload : List ℕ) (key : EntryKey) (reads : read_ad
           accounts = fits.accounts;
         };
         job = keeps.job;
+        fronts = fronts_added keeps.fronts (caches.added_key payload) key payload is_key (λ honest n digest.
+            let map = (keeps.promises honest).map in
+            let none = not_held p.state key unheld in
+            never_came map.replays fits.ledgers key payload alive (unheld_unmapped map.carries key none.0 none.1) n digest);
         promises = λ honest. promised (keeps.promises honest);
       }
 

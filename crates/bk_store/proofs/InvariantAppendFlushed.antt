@@ -207,6 +207,7 @@ written_kept p id key payload keeps may flushing sound log w held writer files g
           (λ honest.
           let reveal_invariant = keeps.promises honest in
           (put_gained p keeps id log held w writer key payload legal keyed files reveal_invariant (mapped reveal_invariant) (grew honest)).only);
+      fronts = keeps.fronts;
       promises = λ honest.
           let reveal_invariant = keeps.promises honest in
           put_promises p keeps id log held w writer key payload legal keyed files reveal_invariant (mapped reveal_invariant) (grew honest);
@@ -253,6 +254,7 @@ failed_kept p id key payload keeps may flushing sound log held files failures pa
       job = job_in p.state.keeper p id (unwritten_log Filled log) files failures p.accounts (unless_log p.writing id) keeps
           (λ job is. job_unflushed p.state job (keeps.job job is) id log held (inl was))
           (λ honest. elim (gained honest) [ inl all ↦ (own_gains (put_record w payload) all).only | inr none ↦ (own_gains [] none).only ]);
+      fronts = keeps.fronts;
       promises = λ honest.
           let reveal_invariant = keeps.promises honest in
           let mapped = reveal_invariant.map.carries.cached_is key payload (flush_written p.state key payload sound.apart flushing) in

@@ -68,6 +68,7 @@ module _ (p : StoreParts) (id : ℕ) (key : EntryKey) (place : Place) (payload :
         let reveal_invariant = keeps.promises honest in
         (put_gained p keeps id log held w writer key payload may.sized may.keyed files reveal_invariant (named_mapped p reveal_invariant id key place payload may honest)
         (grew honest)).only);
+    fronts = keeps.fronts;
     promises = λ honest.
         let reveal_invariant = keeps.promises honest in
         put_promises p keeps id log held w writer key payload may.sized may.keyed files reveal_invariant
@@ -108,6 +109,7 @@ module _ (p : StoreParts) (id : ℕ) (key : EntryKey) (place : Place) (payload :
               (λ wrong. absurd (readable_unflushed wrong));
           job = job_in p.state.keeper p id (unwritten_log Readable log) files failures p.accounts (unless_log p.writing id) keeps may.idle
               (λ honest. elim (gained honest) [ inl all ↦ (own_gains (put_record takes.w payload) all).only | inr none ↦ (own_gains [] none).only ]);
+          fronts = keeps.fronts;
           promises = λ honest.
               let reveal_invariant = keeps.promises honest in
               let mapped = named_mapped p reveal_invariant id key place payload may honest in

@@ -33,6 +33,7 @@ use Rattle.bk_store.proofs.PublishedMoves.{shows_without_ledger}
 use Rattle.bk_store.proofs.TrailMoves.{replays_deleted, follows_deleted}
 use Rattle.bk_store.proofs.InvariantParts.{keeps_same}
 use Rattle.bk_store.proofs.JobStays.{job_stays}
+use Rattle.bk_store.proofs.FrontMoves.{fronts_deleted}
 
 module _ {X : Type 0} where
   -- a ledger's key is not left
@@ -204,6 +205,7 @@ module _ (p : StoreParts) (ledger : ℕ) (keeps : StoreInvariant p) (book : Book
           named = λ _ key place now own. (left_cases p.state.index ledger key place now).1;
           stands = λ _ place key payload own entry. entry;
         }) (keeps.job job is);
+        fronts = fronts_deleted keeps.fronts ledger;
         promises = λ honest. promised (keeps.promises honest);
       }
 

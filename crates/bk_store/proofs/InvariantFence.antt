@@ -11,6 +11,7 @@ use Rattle.bk_store.specs.declared.answer.FenceFault.{FenceFault}
 use Rattle.bk_store.specs.declared.answer.FenceFault.TheVariants.{Deleted, Memory}
 use Rattle.bk_store.proofs.TrailMoves.{replays_fenced, follows_fenced}
 use Rattle.bk_store.proofs.InvariantParts.{with_state, keeps_same}
+use Rattle.bk_store.proofs.FrontMoves.{fronts_fenced}
 
 module _ (p : StoreParts) (ledger : ℕ) (keeps : StoreInvariant p) (alive : set.contains p.state.ledgers.dead ledger ≡ false) where
   abbrev fenced : StoreParts
@@ -29,6 +30,7 @@ module _ (p : StoreParts) (ledger : ℕ) (keeps : StoreInvariant p) (alive : set
           accounts = fits.accounts;
         };
         job = keeps.job;
+        fronts = fronts_fenced keeps.fronts ledger;
         promises = λ honest.
             let reveal_invariant = keeps.promises honest in
             record {

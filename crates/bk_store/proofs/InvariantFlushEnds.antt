@@ -36,6 +36,7 @@ use Rattle.bk_store.proofs.RemovedFiles.{harmless_let_go}
 use Rattle.bk_store.proofs.Seats.{seated_ruled}
 use Rattle.bk_store.proofs.AllChanged.{IsMild, changed_len, settled_mild, settled_unflushed, unfilled_mild}
 use Rattle.bk_store.proofs.JobStays.{job_stays}
+use Rattle.bk_store.proofs.FrontMoves.{fronts_flushed}
 
 -- the parts with all logs changed, and no entry placed
 abbrev ruled : StoreParts → Logs → CacheState → Option ℕ → List ℕ → StoreParts
@@ -210,6 +211,7 @@ keeps_restart p q keeps turn beside =
           (λ id. ((λ wrong. absurd (cc)), (λ now. absurd (none id now.0 now.1 (inl now.2)))))
           (λ id log is flushed. absurd (none id log is flushed));
       job = job_ruled p keeps state_after_restart settled_rests q.state.logs turn.logs p.state.caches None [];
+      fronts = keeps.fronts;
       promises = λ honest.
           let reveal_invariant = keeps.promises honest in
           ruled_promises p keeps state_after_restart settled_mild q.state.logs turn.logs p.state.caches None [] reveal_invariant reveal_invariant.map.carries
@@ -266,6 +268,7 @@ keeps_end p q keeps named turn beside =
                 absurd (unfilled_mild.filled w.0 (ap (λ (l : Log). l.state) w.2 ∙ wrong))
           ]);
       job = job_ruled p keeps state_after_flush unfilled_rests q.state.logs turn.logs held p.writing q.filled;
+      fronts = fronts_flushed keeps.fronts;
       promises = λ honest.
           let reveal_invariant = keeps.promises honest in
           ruled_promises p keeps state_after_flush unfilled_mild q.state.logs turn.logs held p.writing q.filled reveal_invariant

@@ -192,6 +192,7 @@ module _ (p : StoreParts) (keeps : StoreInvariant p) (key : EntryKey) (place : P
           ];
           stands = λ _ pl k b own entry. entry;
         }) (keeps.job job is);
+    fronts = keeps.fronts;
     promises = λ honest. named_promises honest (keeps.promises honest);
   }
 

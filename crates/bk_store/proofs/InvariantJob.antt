@@ -15,7 +15,7 @@ abbrev pub with_job : StoreParts → Option Job → StoreParts
 with_job p job = with_state p (record p.state { job = job })
 
 keeps_job : (p : StoreParts) (now : Option Job) → StoreInvariant p → ((job : Job) → now ≡ Some job → JobInvariant p.state job) → StoreInvariant (with_job p now)
-keeps_job p now keeps each = record { fits = keeps.fits; job = each; promises = keeps.promises }
+keeps_job p now keeps each = record { fits = keeps.fits; job = each; fronts = keeps.fronts; promises = keeps.promises }
 
 pub keeps_without_job : (p : StoreParts) (now : Option Job) → now ≡ None → StoreInvariant p → StoreInvariant (with_job p now)
 keeps_without_job p now none keeps = keeps_job p now keeps (λ job wrong. absurd (let both : None ≡ Some job = sym none ∙ wrong in cc))

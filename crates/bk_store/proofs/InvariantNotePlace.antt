@@ -70,6 +70,7 @@ keeps_ready p log ledger keeps =
         };
       };
       job = keeps.job;
+      fronts = keeps.fronts;
       promises = λ honest.
           let reveal_invariant = keeps.promises honest in
           record {
@@ -142,6 +143,7 @@ keeps_noted p key payload place keeps flushing in_log unplaced first stands =
         accounts = fits.accounts;
       };
       job = keeps.job;
+      fronts = keeps.fronts;
       promises = λ honest.
           let reveal_invariant = keeps.promises honest in
           record {

@@ -181,6 +181,7 @@ keeps_failures p files failures keeps same = record {
   job = λ job is.
       let now = record p.state { files = files; failures = failures } in
       job_stays p.state now job (stays_same p.state now job refl refl refl same) (keeps.job job is);
+  fronts = keeps.fronts;
   promises = λ honest.
       subst (λ f. ContentInvariant (record p { state = record p.state { files = f; failures = failures } })) (sym (same honest)) (keeps.promises honest);
 }

@@ -65,6 +65,7 @@ module _ (p : StoreParts) (keeps : StoreInvariant p) (id : ℕ) (log : Log) (hel
             (writing_same p.state.logs id log shown held (λ w. w) (λ w. w) p.writing fits.logs.writing)
             (fits.logs.filled id log held) (λ w. w) (λ q. refl) (fits.accounts.total id log held) (λ q _. refl);
         job = job_in p.state.keeper p id shown p.state.files p.state.failures p.accounts p.writing keeps idle (λ _ q apart. refl);
+        fronts = keeps.fronts;
         promises = λ honest.
             let s = seen honest in
             let file : file_of p.state.files id ≡ view.bytes = ap (λ (o : Option (List ℕ)). unwrap_or o []) s.1 in

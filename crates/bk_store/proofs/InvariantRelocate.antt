@@ -85,6 +85,7 @@ module _ (p : StoreParts) (keeps : StoreInvariant p) (key : EntryKey) (from_plac
   sent_kept = record {
     fits = sent_fits;
     job = λ job is. absurd (none-some job (sym may.no_job ∙ is));
+    fronts = keeps.fronts;
     promises = λ honest. sent_promises honest (keeps.promises honest);
   }
 

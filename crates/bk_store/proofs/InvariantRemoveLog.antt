@@ -239,6 +239,7 @@ module _ (p : StoreParts) (keeps : StoreInvariant p) (id : ℕ) (log : Log) (hel
           stands = λ honest place key payload there entry.
               entry_same place key payload (sym (only (gone honest) place.log (λ same. apart.1 (sym there ∙ same)))) entry;
         }) own;
+    fronts = keeps.fronts;
     promises = λ honest. removed_promises (gone honest) (let_go honest) (keeps.promises honest);
   }
 
@@ -290,6 +291,7 @@ not_removed : (p q : StoreParts) (id : ℕ) → StoreInvariant p → (log : Log)
 not_removed p q id keeps log held closed let_go = record {
   fits = keeps.fits;
   job = keeps.job;
+  fronts = keeps.fronts;
   promises = λ honest. dropped_promises p keeps id log held closed q.synced q.gone (let_go honest) (keeps.promises honest);
 }
 

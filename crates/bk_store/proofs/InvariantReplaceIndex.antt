@@ -162,6 +162,7 @@ module _ (p : StoreParts) (keeps : StoreInvariant p) (index : Places) (may : Can
   replaced_kept = record {
     fits = replaced_fits;
     job = rebuilt_job p.state.job keeps.job;
+    fronts = keeps.fronts;
     promises = λ honest. replaced_promises honest (keeps.promises honest);
   }
     where

@@ -113,6 +113,7 @@ module _ (p q : StoreParts) (id : ℕ) (state : LogState) (result : Result (Unit
         fits = fits;
         job = job_in p.state.keeper p id (unwritten_log state log) q.state.files (p.state.failures + failed_in result) p.accounts (unless_log p.writing id)
             keeps idle (λ honest. (gained honest).only);
+        fronts = keeps.fronts;
         promises = λ honest.
             let reveal_invariant = keeps.promises honest in
             let sealed = turn.sealed honest in

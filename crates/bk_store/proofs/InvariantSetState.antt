@@ -57,6 +57,7 @@ module _ (p : StoreParts) (keeps : StoreInvariant p) (id : ℕ) (state : LogStat
             (writing_same p.state.logs id log new held (λ wrong. absurd (other (inl wrong))) (λ wrong. absurd (unflushed (inl wrong))) p.writing fits.logs.writing)
             (λ wrong. absurd (unflushed wrong)) (λ wrong. absurd (unflushed (inl wrong))) (λ q. refl) (fits.accounts.total id log held) (λ q _. refl);
         job = job_in keeper p id new files p.state.failures p.accounts p.writing keeps idle (λ _ q apart. refl);
+        fronts = keeps.fronts;
         promises = λ honest.
             let reveal_invariant = keeps.promises honest in
             let old = reveal_invariant.logs.each id log held in

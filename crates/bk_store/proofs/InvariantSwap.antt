@@ -1,5 +1,5 @@
 -- A swap preserves the store invariant.
-use Rattle.std.proofs.Common.{◌≡◌, inl, ℕ, List, Option, Some, None, refl, sym, ap, subst, ◌∙◌}
+use Rattle.std.proofs.Common.{◌≡◌, inl, ℕ, List, length, Option, Some, None, refl, sym, ap, subst, ◌∙◌}
 use Rattle.std.specs.Option.{option_or}
 use Rattle.std.specs.FinMap as finite
 use Rattle.bk_record.specs.Key.{EntryKey, key_cmp}
@@ -13,10 +13,14 @@ use Rattle.bk_cache.specs.declared.swap.Swap.TheVariants.{Running, Nothing, Swap
 use Rattle.bk_store.proofs.CachedMoves.{carries_same_cached}
 use Rattle.bk_store.proofs.RemovedFiles.{harmless_let_go}
 use Rattle.bk_store.proofs.InvariantParts.{with_state, keeps_same, none_placed, all_unplaced}
+use Rattle.bk_store.proofs.FrontMoves.{fronts_swapped, fronts_rested}
 
 module _ (p : StoreParts) (keeps : StoreInvariant p) (idle : p.state.caches.flush ≡ None) where
   abbrev swapped : StoreParts
-  swapped = with_state p (record p.state { caches = record p.state.caches { active = finite.empty; flush = Some p.state.caches.active } })
+  swapped = with_state p (record p.state {
+    caches = record p.state.caches { active = finite.empty; flush = Some p.state.caches.active };
+    fronts = record p.state.fronts { swapped = length p.state.ledgers.trail };
+  })
 
   no_places : p.state.places ≡ finite.empty
   no_places = keeps.fits.placed.idle idle
@@ -61,10 +65,16 @@ module _ (p : StoreParts) (keeps : StoreInvariant p) (idle : p.state.caches.flus
           accounts = fits.accounts;
         };
         job = keeps.job;
+        fronts = fronts_swapped keeps.fronts;
         promises = λ honest. promised (keeps.promises honest);
       }
 
 pub keeps_swap : (p q : StoreParts) (answer : Swap) → StoreInvariant p → SwapTransition p.state answer q.state → q ≡ with_state p q.state → StoreInvariant q
 keeps_swap p q Running keeps turn beside = keeps_same p q keeps beside turn.1
-keeps_swap p q Nothing keeps turn beside = keeps_same p q keeps beside turn.2
+keeps_swap p q Nothing keeps turn beside = subst StoreInvariant (sym (beside ∙ ap (with_state p) turn.2)) (record {
+  fits = keeps.fits;
+  job = keeps.job;
+  fronts = fronts_rested keeps.fronts turn.0 turn.1;
+  promises = keeps.promises;
+})
 keeps_swap p q (Swapped n) keeps turn beside = subst StoreInvariant (sym (beside ∙ ap (with_state p) turn.3)) (swapped_kept p keeps turn.0)

@@ -35,6 +35,7 @@ keeps_given p keeps =
         accounts = fits.accounts;
       };
       job = keeps.job;
+      fronts = keeps.fronts;
       promises = keeps.promises;
     }
 

@@ -20,11 +20,13 @@ pub mod Indexes
 pub mod Noted
 pub mod PlacedLedgers
 pub mod TrailMoves
+pub mod FrontMoves
 pub mod InvariantParts
 pub mod InvariantJob
 pub mod InvariantAdd
 pub mod InvariantSwap
 pub mod Tables
+pub mod DurableMarks
 pub mod Refinement
 pub mod InvariantDelete
 pub mod InvariantFence

@@ -88,6 +88,7 @@ module _ (p : StoreParts) (keeps : StoreInvariant p) where
           accounts = fits.accounts;
         };
         job = keeps.job;
+        fronts = keeps.fronts;
         promises = keeps.promises;
       }
 
@@ -112,6 +113,7 @@ module _ (p : StoreParts) (keeps : StoreInvariant p) where
         job = λ job is.
             let used = with_next p.state files failures p.state.logs p.state.keeper in
             job_stays p.state used job (stays_same p.state used job refl refl refl same) (keeps.job job is);
+        fronts = keeps.fronts;
         promises = λ honest.
             let reveal_invariant = keeps.promises honest in
             subst (λ f. ContentInvariant (record p { state = with_next p.state f failures p.state.logs p.state.keeper; filled = filled })) (sym (same honest)) (record {
@@ -300,5 +302,6 @@ module _ (p : StoreParts) (keeps : StoreInvariant p) where
           let others : (job.source ≢ next) × (job.copy ≢ next) =
           (apart job.source kept.source.log kept.source.held, apart job.copy kept.copy.log kept.copy.held) in
           job_stays p.state t job (stays_else p.state t job next new others refl refl refl (λ honest. (made honest).0.only)) kept;
+      fronts = keeps.fronts;
       promises = λ honest. let m = made honest in new_promises (keeps.promises honest) m.0 m.1 m.2;
     }

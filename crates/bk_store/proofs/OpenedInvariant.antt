@@ -9,8 +9,9 @@ use Rattle.bk_record.specs.Keyed.{Places}
 use Rattle.bk_record.specs.Scan.{Ledgers}
 use Rattle.bk_cache.specs.Caches as caches
 use Rattle.bk_cache.specs.Caches.{CacheState}
-use Rattle.bk_store.specs.Logs.{Log, Logs}
+use Rattle.bk_store.specs.Logs.{Logs}
 use Rattle.bk_store.specs.Ledgers.{KnownLedgers, opened_ledgers}
+use Rattle.bk_store.specs.Fronts.{fronts_at}
 use Rattle.bk_store.specs.State.{StoreParts}
 use Rattle.bk_store.specs.Transitions.{valid_ledgers}
 use Rattle.bk_lease.specs.Values.{SlotTable}
@@ -23,6 +24,7 @@ use Rattle.bk_store.specs.declared.settings.Settings.{Settings}
 use Rattle.bk_store.specs.declared.answer.OpenFault.{OpenFault}
 use Rattle.bk_store.specs.declared.answer.OpenFault.TheVariants as open_faults
 use Rattle.bk_store.specs.declared.open.tally.Tally.{Tally}
+use Rattle.bk_store.proofs.FrontMoves.{fronts_opened}
 use Rattle.bk_store.proofs.RemovedFiles.{HasNone}
 use Rattle.bk_store.proofs.OpenedSums.{with_lists, no_names, dead-reads}
 use Rattle.bk_store.proofs.OpenedParts.{started, opened_parts, no_lists, counted, opened_fits, opened_promises, opened_files}
@@ -89,6 +91,7 @@ made_parts settings files synced gone honest failures kept places t logs keeper 
     keeper = keeper;
     next = next;
     ledgers = known;
+    fronts = fronts_at 0;
     job = None;
   };
   accounts = t.accounts;
@@ -122,6 +125,7 @@ module _ (settings : Settings) (honest honest' : Bool) (files files' synced gone
   opened_keeps allowed seated all none = subst StoreInvariant parts_are (record {
     fits = opened_fits settings honest' files' synced gone failures dead ids next t logs taken_now keeper allowed seated;
     job = λ job wrong. absurd (cc);
+    fronts = fronts_opened;
     promises = λ is.
         opened_promises settings honest' files' synced gone failures dead ids next t logs taken_now keeper is (listed_now is) (all is) (none is);
   })
@@ -133,6 +137,7 @@ module _ (settings : Settings) (honest honest' : Bool) (files files' synced gone
     caches_are = refl;
     places_are = refl;
     ledgers_are = ap opened_ledgers (ap (λ (x : Tally). x.dead) taken.taken ∙ dead-reads (started dead) taken.reads ∙ dead_are);
+    fronts_are = refl;
     idle = refl;
     holds = λ is.
         let is' : IsTrue honest' = stays ∙ is in

@@ -28,6 +28,7 @@ use Rattle.bk_store.specs.Entries.{IsIndexOf}
 use Rattle.bk_store.specs.Representation.{Cached, Represents}
 use Rattle.bk_store.specs.Logs.{View, Log, Logs, found_log, open_parts, is_open, published_part}
 use Rattle.bk_store.specs.Ledgers.{opened_ledgers}
+use Rattle.bk_store.specs.Fronts.{fronts_at}
 use Rattle.bk_store.specs.State.{StoreParts}
 use Rattle.bk_store.specs.Contents.{written_at}
 use Rattle.bk_lease.specs.Values.{SlotTable}
@@ -72,6 +73,7 @@ opened_parts settings files synced gone honest failures t logs keeper next = rec
     keeper = keeper;
     next = next;
     ledgers = opened_ledgers t.dead;
+    fronts = fronts_at 0;
     job = None;
   };
   accounts = named_by (finite.entries t.index) t.accounts;

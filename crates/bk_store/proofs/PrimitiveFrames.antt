@@ -44,7 +44,7 @@ unmade_still s t {failures = failures} unmade =
         ledgers = refl;
         gone = left_gone s t.files failures unmade.made unmade.slot (keeper_left s unmade.made unmade.slot);
       },
-      record { active = refl; flush = refl },
+      record { active = refl; flush = refl; fronts = refl },
       left_slots s unmade.made unmade.slot unmade.free,
     )) t unmade.left
 
@@ -56,7 +56,7 @@ made_still s t {state = state} made =
         ledgers = refl;
         gone = gone_made s (with_next s t.files s.failures (finite.insert s.logs s.next (made_log state s.next made.slot)) (with_seat s made.slot)) _ refl refl;
       },
-      record { active = refl; flush = refl },
+      record { active = refl; flush = refl; fronts = refl },
       slots_opened s.keeper made.slot _ made.free.1,
     )) t made.left
 

@@ -16,12 +16,13 @@ use Rattle.bk_lease.specs.Values.{Ticket}
 use Rattle.bk_store.specs.Entries.{HasEntry}
 use Rattle.bk_store.specs.Representation.{Represents}
 use Rattle.bk_store.specs.Logs.{View, HasOpenView, view_of, is_open, open_parts, published_part}
+use Rattle.bk_store.specs.Fronts.{fronts_after_swap}
 use Rattle.bk_store.specs.Ledgers.{KnownLedgers, is_barred, receipt_of, with_add, with_deletion, with_fence}
 use Rattle.bk_store.specs.State.{State, StoreParts}
 use Rattle.bk_store.specs.Contents.{written_at, cached_at, holds}
 use Rattle.bk_store.specs.Invariant.{StoreInvariant, ContentInvariant}
-use Rattle.bk_store.specs.Transitions.{AsksToAdd, AddTransition, TakeTransition, SwapTransition, DeleteTransition, FenceTransition, state_after_delete, is_dead, is_fenced}
-use Rattle.bk_store.specs.Abstract.{AbstractState, IsLive, IsNew, IsUnfenced, AbstractAdd, AbstractTake, AbstractDelete, AbstractFence, abstract_after_swap, abstract_after_delete, pending_payload, StoreRefines}
+use Rattle.bk_store.specs.Transitions.{AsksToAdd, AddTransition, TakeTransition, SwapTransition, DeleteTransition, FenceTransition, state_after_delete, swapped_fronts, is_dead, is_fenced}
+use Rattle.bk_store.specs.Abstract.{AbstractState, IsLive, IsNew, IsUnfenced, AbstractAdd, AbstractTake, AbstractDelete, AbstractFence, abstract_after_swap, abstract_swapped_fronts, abstract_after_delete, pending_payload, StoreRefines}
 use Rattle.bk_store.specs.declared.adding.AddKind.{AddKind}
 use Rattle.bk_store.specs.declared.answer.Added.{Added}
 use Rattle.bk_store.specs.declared.answer.Added.TheVariants.{Accepted, Held}
@@ -67,14 +68,15 @@ module _ (s : State) (p : AbstractState) (agrees : StoreRefines s p) where
 
 -- a store that represents the abstract map agrees with it
 pub agrees_of : (s : State) (p : AbstractState) → Represents (file_of s.files) s.index (written_at s) s.ledgers.dead p.map
-    → s.ledgers ≡ p.ledgers → s.caches.active ≡ p.active → s.caches.flush ≡ p.flush → StoreRefines s p
-agrees_of s p carries ledgers active flush = record {
+    → s.ledgers ≡ p.ledgers → s.caches.active ≡ p.active → s.caches.flush ≡ p.flush → s.fronts ≡ p.fronts → StoreRefines s p
+agrees_of s p carries ledgers active flush fronts = record {
   meaning = λ key. carries_meaning s.files carries key
       ∙ (λ i. cond (set.contains (ledgers i).dead key.ledger) None
       (option_or (option_or (finite.get (active i) key) (finite.get (unwrap_or (flush i) finite.empty) key)) (finite.get (scan_of s.files) key)));
   ledgers = ledgers;
   active = active;
   flush = flush;
+  fronts = fronts;
 }
 
 agrees_same : {s t : State} {p : AbstractState} → StoreRefines s p → t ≡ s → StoreRefines t p
@@ -165,7 +167,7 @@ module _ (parts : StoreParts) (keeps : StoreInvariant parts) (reveal_invariant :
         ),
         agrees_same (agrees_of (record s { caches = caches.with_added s.caches payload; ledgers = with_add s.ledgers asks.key payload }) q after
             (ap (λ l. with_add l asks.key payload) agrees.ledgers)
-            ((λ i. finite.insert (agrees.active i) (added.is_key parts payload asks.key asks.reads keeps asks.lives asks.held i) payload)) agrees.flush) turn.3,
+            ((λ i. finite.insert (agrees.active i) (added.is_key parts payload asks.key asks.reads keeps asks.lives asks.held i) payload)) agrees.flush agrees.fronts) turn.3,
       )
 
   -- what a read finds in memory is the map's
@@ -231,7 +233,7 @@ module _ (parts : StoreParts) (keeps : StoreInvariant parts) (reveal_invariant :
             },
           ),
         ),
-        agrees_same (record { meaning = agrees.meaning; ledgers = agrees.ledgers; active = agrees.active; flush = agrees.flush }) turn.2,
+        agrees_same (record { meaning = agrees.meaning; ledgers = agrees.ledgers; active = agrees.active; flush = agrees.flush; fronts = agrees.fronts }) turn.2,
       )
   plain_take bytes honest sound key (Err take_faults.NoSeat) t turn =
       ((lives_in key false turn.1.lives, indexed_mapped key turn.0 turn.1.sent), agrees_same agrees turn.2)
@@ -248,13 +250,26 @@ module _ (parts : StoreParts) (keeps : StoreInvariant parts) (reveal_invariant :
     agrees_same agrees turn.2,
   )
 
+  fronts_agree : (r : Swap) → swapped_fronts r s ≡ abstract_swapped_fronts r p
+  fronts_agree r = λ i. fronts_after_swap r (length (agrees.ledgers i).trail) (agrees.fronts i)
+
   pub plain_swap : (t : State) (r : Swap) → SwapTransition s r t → StoreRefines t (abstract_after_swap r p)
   plain_swap t Running turn = agrees_same agrees turn.1
-  plain_swap t Nothing turn = agrees_same agrees turn.2
+  plain_swap t Nothing turn =
+      agrees_same (record {
+        meaning = agrees.meaning;
+        ledgers = agrees.ledgers;
+        active = agrees.active;
+        flush = agrees.flush;
+        fronts = fronts_agree Nothing;
+      }) turn.2
   plain_swap t (Swapped n) turn =
-      let after : State = record s { caches = record s.caches { active = finite.empty; flush = Some s.caches.active } } in
+      let after : State = record s {
+        caches = record s.caches { active = finite.empty; flush = Some s.caches.active };
+        fronts = swapped_fronts (Swapped n) s;
+      } in
       agrees_same (agrees_of after (abstract_after_swap (Swapped n) p) (carries_same_cached carries (written_at after) (swapped.same_cached parts keeps turn.0))
-      agrees.ledgers refl (ap Some agrees.active)) turn.3
+      agrees.ledgers refl (ap Some agrees.active) (fronts_agree (Swapped n))) turn.3
 
   pub plain_delete : caches.AreApart s.caches → (t : State) (ledger : ℕ) (r : Result ℕ DeleteFault) → DeleteTransition s ledger r t
       → (q : AbstractState) × AbstractDelete p ledger r q × StoreRefines t q
@@ -266,7 +281,7 @@ module _ (parts : StoreParts) (keeps : StoreInvariant parts) (reveal_invariant :
     agrees_same (agrees_of (state_after_delete s ledger) (abstract_after_delete p ledger)
         (carries_without_ledger carries (written_at (state_after_delete s ledger)) ledger (removed.written_gone s ledger) (removed.written_same s ledger))
         (ap (λ l. with_deletion l ledger) agrees.ledgers) (ap (λ m. without_ledger m ledger) agrees.active)
-        (ap (option_map (λ m. without_ledger m ledger)) agrees.flush)) turn.2,
+        (ap (option_map (λ m. without_ledger m ledger)) agrees.flush) agrees.fronts) turn.2,
   )
 
 -- a fence, which asks nothing of the disk
@@ -295,5 +310,6 @@ module _ (s : State) (p : AbstractState) (agrees : StoreRefines s p) where
         ledgers = ap (λ l. with_fence l ledger) agrees.ledgers;
         active = agrees.active;
         flush = agrees.flush;
+        fronts = agrees.fronts;
       } in
       (q, (unfenced_in ledger turn.0 turn.1, refl), agrees_same after turn.2)

@@ -1,5 +1,5 @@
 -- An entry that the caches took and that was marked is one that was added.
-use Rattle.std.proofs.Common.{◌≡◌, ℕ, List, false, ◌||◌, Option, Some, None, Ok, is_some, refl, ap, ◌∙◌}
+use Rattle.std.proofs.Common.{◌≡◌, ℕ, List, false, ◌||◌, None, Ok, is_some}
 use Rattle.std.specs.FinMap as finite
 use Rattle.bk_record.specs.Key.{EntryKey}
 use Rattle.bk_record.specs.Record.{read_added}

@@ -65,7 +65,7 @@ module _ {map : Payloads} {l : KnownLedgers} (replays : MapMatchesTrail map l.tr
   never_deleted : WasDeleted l.trail key.ledger → ⊥
   never_deleted out = let wrong : true ≡ false = sym (follows.gone key.ledger out) ∙ alive in cc
 
-  never_came : (n : ℕ) (digest : List ℕ) → HasAddMark l.trail n key digest → ⊥
+  pub never_came : (n : ℕ) (digest : List ℕ) → HasAddMark l.trail n key digest → ⊥
   never_came n digest at =
       let has = replays.has n key digest at never_deleted in
       let wrong : ◌≡◌ {A = Option (List ℕ)} (Some has.0) None = sym has.1 ∙ missing in cc

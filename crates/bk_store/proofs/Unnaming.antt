@@ -1,6 +1,6 @@
 -- The keys of a ledger lose their names one by one, and those that no write cache has are counted.
-use Rattle.std.proofs.Common.{◌≡◌, ℕ, ◌+◌, ◌≤◌, ◌==◌, ◌&&◌, if◌then◌else◌, Bool, true, false, cond, not, List, [], ◌∷◌, length}
-use Rattle.std.proofs.Common.{Option, Some, None, IfSome, is_some, option_map, refl, sym, ap, ◌∙◌, arith}
+use Rattle.std.proofs.Common.{◌≡◌, ℕ, ◌+◌, ◌<◌, ◌≤◌, ◌==◌, ◌&&◌, if◌then◌else◌, Bool, true, false, cond, not, List, [], ◌∷◌, length}
+use Rattle.std.proofs.Common.{Option, Some, None, IfSome, is_some, option_map, refl, sym, ap, subst, ◌∙◌, arith}
 use Rattle.std.specs.List.{filter, count_by}
 use Rattle.std.specs.FinMap as finite
 use Rattle.std.proofs.lemmas.Bool.{eq-eqb, eqb-true}
@@ -134,6 +134,18 @@ module _ {index : Places} {s : CacheState} {ledger : ℕ} {old now : Book} {alon
     named = λ log. ap (λ b. finite.get b log) is ∙ unnamed (log_count (without_ledger index ledger)) old now e rest goes.named log;
     counted = omega (arith, goes.counted, counts, one);
   }
+
+  -- the log of the entry has a name for it
+  pub named-more : IfSome (named_in now e.1.log) (λ named. 0 < named)
+  named-more = subst (λ o. IfSome (option_map (λ (account : Account). account.named) o) (λ named. 0 < named)) (sym (goes.named e.1.log)) (some (finite.get old e.1.log))
+    where
+      one : in_log e.1.log (e ∷ rest) ≡ 1 + in_log e.1.log rest
+      one = sum_by-cons (λ (x : EntryKey × Place). cond (x.1.log == e.1.log) 1 0) e rest ∙ ap (λ b. one_if b + in_log e.1.log rest) (eq-eqb e.1.log e.1.log refl)
+
+      some : (o : Option Account) → IfSome (option_map (λ (account : Account). account.named)
+          (option_map (λ (account : Account). record account { named = log_count (without_ledger index ledger) e.1.log + in_log e.1.log (e ∷ rest) }) o)) (λ named. 0 < named)
+      some None = tt
+      some (Some account) = omega (arith, one)
 
   pub alone-more : (n : ℕ) → n ≡ one_if (is_alone s e) → alone + n ≤ count_by (λ x. (x.0.ledger == ledger) && is_alone s x) (finite.entries index)
   alone-more n one = omega (arith, goes.counted, counts, one)

@@ -13,10 +13,12 @@ use Rattle.bk_record.specs.Keyed.{ledger_count, without_ledger}
 use Rattle.bk_cache.specs.Caches.{used_of, AreApart}
 use Rattle.bk_lease.specs.Values.{LeasedView}
 use Rattle.bk_store.specs.Entries.{HasEntry}
+use Rattle.bk_store.specs.Fronts.{fronts_after_swap}
 use Rattle.bk_store.specs.Ledgers.{KnownLedgers, is_barred, receipt_of, with_add, with_deletion, with_fence}
 use Rattle.bk_store.specs.State.{State, StoreParts}
 use Rattle.bk_store.specs.Invariant.{StoreInvariant}
 use Rattle.bk_store.specs.declared.adding.AddKind.{AddKind}
+use Rattle.bk_store.specs.declared.fronts.Fronts.{Fronts}
 use Rattle.bk_store.specs.declared.answer.Added.{Added}
 use Rattle.bk_store.specs.declared.answer.Added.TheVariants.{Accepted, Held}
 use Rattle.bk_store.specs.declared.answer.AddFault.{AddFault}
@@ -34,13 +36,14 @@ use Rattle.bk_store.specs.declared.answer.FenceFault.TheVariants as fence_faults
 use Rattle.bk_cache.specs.declared.swap.Swap.{Swap}
 use Rattle.bk_cache.specs.declared.swap.Swap.TheVariants.{Running, Nothing, Swapped}
 
--- State of the abstract map: the accepted entries of live ledgers, the known ledgers, and which of
--- the entries are only cached.
+-- State of the abstract map: the accepted entries of live ledgers, the known ledgers, which of the
+-- entries are only cached, and the fronts.
 pub record AbstractState : Type 0 where
   pub map : Payloads
   pub ledgers : KnownLedgers
   pub active : Payloads
   pub flush : Option Payloads
+  pub fronts : Fronts
 
 -- the ledger is deleted
 abbrev pub IsDeleted : AbstractState → ℕ → Type 0
@@ -112,11 +115,16 @@ AbstractTake bytes honest p key (Err take_faults.NoSeat) = IsAlive p key.ledger 
 AbstractTake bytes honest p key (Err take_faults.TooMany) = IsAlive p key.ledger × IsSome (finite.get p.map key)
 AbstractTake bytes honest p key (Err take_faults.Memory) = IsAlive p key.ledger × IsSome (finite.get p.map key)
 
--- A swap makes the active pairs the flushing ones.
+-- the fronts after a swap with this answer
+abbrev pub abstract_swapped_fronts : Swap → AbstractState → Fronts
+abstract_swapped_fronts answer p = fronts_after_swap answer (length p.ledgers.trail) p.fronts
+
+-- A swap makes the active pairs the flushing ones, and notes how many marks they have. If there is
+-- nothing to flush, all marks are durable.
 abbrev pub abstract_after_swap : Swap → AbstractState → AbstractState
 abstract_after_swap Running p = p
-abstract_after_swap Nothing p = p
-abstract_after_swap (Swapped n) p = record p { active = finite.empty; flush = Some p.active }
+abstract_after_swap Nothing p = record p { fronts = abstract_swapped_fronts Nothing p }
+abstract_after_swap (Swapped n) p = record p { active = finite.empty; flush = Some p.active; fronts = abstract_swapped_fronts (Swapped n) p }
 
 -- the state without a ledger, which is deleted from then on and no longer fenced
 abbrev pub abstract_after_delete : AbstractState → ℕ → AbstractState
@@ -125,6 +133,7 @@ abstract_after_delete p ledger = record {
   ledgers = with_deletion p.ledgers ledger;
   active = without_ledger p.active ledger;
   flush = option_map (λ m. without_ledger m ledger) p.flush;
+  fronts = p.fronts;
 }
 
 -- A deletion removes the pairs of a ledger, and returns how many there were.
@@ -160,6 +169,7 @@ pub record StoreRefines (s : State) (p : AbstractState) : Type 0 where
   pub ledgers : s.ledgers ≡ p.ledgers
   pub active : s.caches.active ≡ p.active
   pub flush : s.caches.flush ≡ p.flush
+  pub fronts : s.fronts ≡ p.fronts
 
 -- The state is that of some parts that satisfy the store invariant, and no key is in both write
 -- caches. Every `Store` satisfies this.

@@ -16,10 +16,11 @@ pub record CoreUnchanged (s t : State) : Type 0 where
   pub ledgers : t.ledgers ≡ s.ledgers
   pub gone : (log : ℕ) → IsRemovedLog s log → IsRemovedLog t log
 
--- the write caches are unchanged
+-- the write caches and the fronts are unchanged
 pub record CachesUnchanged (s t : State) : Type 0 where
   pub active : t.caches.active ≡ s.caches.active
   pub flush : t.caches.flush ≡ s.caches.flush
+  pub fronts : t.fronts ≡ s.fronts
 
 -- each occupied slot is unchanged: the log in it, and whether it is closed to leases
 pub record SlotsUnchanged (old new : SlotTable) : Type 0 where

@@ -1,10 +1,11 @@
 -- The store invariant: what every `Store` satisfies between two calls. It is the type invariant of
 -- `Store` (src/store.rt), so a mutex around a store protects it too.
 --
--- Read `StoreInvariant` first (at the end). It has three parts:
+-- Read `StoreInvariant` first (at the end). It has four parts:
 --   StructuralFacts   on any disk: limits, slots and writers of the logs held, index entries only for
 --                     open logs, places of the flush, trail, accounts.
 --   JobInvariant      the running compaction, if any (specs/JobInvariant.antt).
+--   FrontsInvariant   how much of the trail is durable (specs/Fronts.antt).
 --   ContentFacts      on an honest disk: files, index and caches represent one map (`Represents`); the
 --                     index points only to published and durable bytes; the accounts are sums over
 --                     the acknowledged entries.
@@ -35,6 +36,7 @@ use Rattle.bk_store.specs.Published.{IndexIsPublished}
 use Rattle.bk_store.specs.Jobs.{Job}
 use Rattle.bk_store.specs.JobInvariant.{JobInvariant}
 use Rattle.bk_store.specs.Trail.{MapMatchesTrail}
+use Rattle.bk_store.specs.Fronts.{FrontsInvariant}
 use Rattle.bk_store.specs.Ledgers.{KnownLedgers, LedgersMatchTrail}
 use Rattle.bk_store.specs.Logs.{View, Log, Logs, HasOpenView, IsFlushLog, is_open, is_written, open_parts, acknowledged_part}
 use Rattle.bk_store.specs.State.{StoreParts}
@@ -165,8 +167,13 @@ pub record ContentFacts (files synced gone : Files) (next : ℕ) (held : Logs) (
 abbrev pub ContentInvariant : StoreParts → Type 0
 ContentInvariant p = ContentFacts p.state.files p.synced p.gone p.state.next p.state.logs p.state.index p.state.caches p.state.places p.state.ledgers p.accounts
 
--- the parts of a store satisfy both kinds of facts, and so does the job of a running compaction
+abbrev pub HasFronts : StoreParts → Type 0
+HasFronts p = FrontsInvariant p.state.honest p.state.fronts p.state.ledgers.trail p.state.caches.active p.state.caches.flush
+
+-- the parts of a store satisfy both kinds of facts, and so do the fronts and the job of a running
+-- compaction
 pub record StoreInvariant (p : StoreParts) : Type 0 where
   pub fits : StructuralInvariant p
   pub job : (job : Job) → p.state.job ≡ Some job → JobInvariant p.state job
+  pub fronts : HasFronts p
   pub promises : IsTrue p.state.honest → ContentInvariant p

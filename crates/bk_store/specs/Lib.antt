@@ -7,6 +7,7 @@ pub mod Jobs
 pub mod Trail
 pub mod TrailLayout
 pub mod Ledgers
+pub mod Fronts
 pub mod State
 pub mod Contents
 pub mod Limits

@@ -12,6 +12,7 @@ use Rattle.bk_store.specs.Entries.{IsIndexOf}
 use Rattle.bk_store.specs.Limits.{IsAllowed}
 use Rattle.bk_store.specs.Logs.{View, Logs, found_log}
 use Rattle.bk_store.specs.Ledgers.{opened_ledgers}
+use Rattle.bk_store.specs.Fronts.{fronts_at}
 use Rattle.bk_store.specs.State.{State}
 use Rattle.bk_store.specs.Transitions.{valid_ledgers}
 use Rattle.bk_store.specs.declared.settings.Settings.{Settings}
@@ -103,11 +104,12 @@ pub record HoldsFiles (files : Files) (s : State) : Type 0 where
   pub next : IsNextId files s.next
 
 -- A store after opening: these settings, nothing cached, no flush, these ledgers deleted and none
--- fenced, an empty trail, and what the files give.
+-- fenced, an empty trail with both fronts at its start, and what the files give.
 pub record IsOpened (honest : Bool) (files : Files) (settings : Settings) (dead : List ℕ) (s : State) : Type 0 where
   pub settings_are : s.settings ≡ settings
   pub caches_are : s.caches ≡ caches.new_caches settings.cache_limit settings.recent
   pub places_are : s.places ≡ finite.empty
   pub ledgers_are : s.ledgers ≡ opened_ledgers (valid_ledgers dead)
+  pub fronts_are : s.fronts ≡ fronts_at 0
   pub idle : s.job ≡ None
   pub holds : IsTrue honest → HoldsFiles files s

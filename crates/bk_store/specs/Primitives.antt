@@ -26,6 +26,7 @@ use Rattle.bk_lease.specs.Values.{SlotTable, with_state}
 use Rattle.bk_store.specs.Entries.{IsIndexOf}
 use Rattle.bk_store.specs.Logs.{View, Log, Logs, made_log, log_without_records, unwritten_log, log_after_failed_append, with_view, state_after_restart}
 use Rattle.bk_store.specs.Logs.{state_after_flush, AllChanged, is_open, open_parts, HasOpenView, IsHeldIn}
+use Rattle.bk_store.specs.Fronts.{fronts_after_flush}
 use Rattle.bk_store.specs.Jobs.{Job, with_rebuild}
 use Rattle.bk_store.specs.Appending.{next_place, grown_log}
 use Rattle.bk_store.specs.State.{State}
@@ -334,10 +335,16 @@ pub record RestartFlushTransition (s t : State) : Type 0 where
   pub logs : AllChanged state_after_restart s.logs t.logs
   pub left : t ≡ record s { logs = t.logs; places = finite.empty }
 
--- Ends the flush: its cache is dropped, and the logs that it filled become Readable.
+-- Ends the flush: its cache is dropped, the logs that it filled become Readable, and what it had is
+-- durable.
 pub record EndFlushTransition (s t : State) : Type 0 where
   pub logs : AllChanged state_after_flush s.logs t.logs
-  pub left : t ≡ record s { logs = t.logs; places = finite.empty; caches = record s.caches { flush = None } }
+  pub left : t ≡ record s {
+    logs = t.logs;
+    places = finite.empty;
+    caches = record s.caches { flush = None };
+    fronts = fronts_after_flush s.fronts;
+  }
 
 -- ---- other logs, and the index
 

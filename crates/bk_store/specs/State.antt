@@ -10,16 +10,18 @@ use Rattle.bk_cache.specs.Caches.{CacheState, cache_code}
 use Rattle.bk_accounts.specs.Book.{Book, book_code}
 use Rattle.bk_lease.specs.Values.{SlotTable}
 use Rattle.bk_lease.specs.Codes.{slot_table_code}
+use Rattle.bk_store.specs.Fronts.{fronts_code}
 use Rattle.bk_store.specs.Jobs.{Job, job_code}
 use Rattle.bk_store.specs.Ledgers.{KnownLedgers, known_ledgers_code}
 use Rattle.bk_store.specs.Logs.{View, Log, Logs}
+use Rattle.bk_store.specs.declared.fronts.Fronts.{Fronts}
 use Rattle.bk_store.specs.declared.log.LogState.{LogState}
 use Rattle.bk_store.specs.declared.log.LogState.TheVariants.{Writing, Filled, Copying, Readable, Retired, Closed}
 use Rattle.bk_store.specs.declared.settings.Settings.{Settings}
 
 -- The visible state: the settings; the files of the disk, whether it is honest, and its failure
 -- count; the caches; the places of the running flush, by key; the index; the logs held; the table
--- of their slots; the id of the next log; the known ledgers; the running compaction.
+-- of their slots; the id of the next log; the known ledgers; the fronts; the running compaction.
 pub record State : Type 0 where
   pub settings : Settings
   pub files : Files
@@ -32,6 +34,7 @@ pub record State : Type 0 where
   pub keeper : SlotTable
   pub next : ℕ
   pub ledgers : KnownLedgers
+  pub fronts : Fronts
   pub job : Option Job
 
 -- The parts of a store: the visible state, and the internals. These are the accounts of the logs,
@@ -109,10 +112,10 @@ files_code = finite.code coded_ℕ (coded_list coded_ℕ)
 -- a state is stored as the tuple of its fields
 abbrev pub state_code : Coded State
 state_code = code_by
-    (Settings × (Files × (Bool × (ℕ × (CacheState × (Places × (Places × (Logs × (SlotTable × (ℕ × (KnownLedgers × Option Job)))))))))))
+    (Settings × (Files × (Bool × (ℕ × (CacheState × (Places × (Places × (Logs × (SlotTable × (ℕ × (KnownLedgers × (Fronts × Option Job))))))))))))
     (coded× settings_code (coded× files_code (coded× coded_bool (coded× coded_ℕ (coded× cache_code (coded× places_code
-    (coded× places_code (coded× logs_code (coded× slot_table_code (coded× coded_ℕ (coded× known_ledgers_code (coded_option job_code))))))))))))
-    (λ s. (s.settings, (s.files, (s.honest, (s.failures, (s.caches, (s.places, (s.index, (s.logs, (s.keeper, (s.next, (s.ledgers, s.job))))))))))))
+    (coded× places_code (coded× logs_code (coded× slot_table_code (coded× coded_ℕ (coded× known_ledgers_code (coded× fronts_code (coded_option job_code)))))))))))))
+    (λ s. (s.settings, (s.files, (s.honest, (s.failures, (s.caches, (s.places, (s.index, (s.logs, (s.keeper, (s.next, (s.ledgers, (s.fronts, s.job)))))))))))))
     (λ p. record {
       settings = p.0;
       files = p.1.0;
@@ -125,7 +128,8 @@ state_code = code_by
       keeper = p.1.1.1.1.1.1.1.1.0;
       next = p.1.1.1.1.1.1.1.1.1.0;
       ledgers = p.1.1.1.1.1.1.1.1.1.1.0;
-      job = p.1.1.1.1.1.1.1.1.1.1.1;
+      fronts = p.1.1.1.1.1.1.1.1.1.1.1.0;
+      job = p.1.1.1.1.1.1.1.1.1.1.1.1;
     })
     (λ _. refl)
 

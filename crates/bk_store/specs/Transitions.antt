@@ -1,5 +1,5 @@
 -- Transitions of a store that do not use the device: add, take, delete, fence, swap.
-use Rattle.std.specs.Prelude.{◌≡◌, ◌⊎◌, ℕ, ◌+◌, ◌<◌, ◌^◌, nat_lt, Bool, true, false, not, ◌==◌, ◌&&◌, List, Some, None, IsSome, is_some, Result, Ok, Err}
+use Rattle.std.specs.Prelude.{◌≡◌, ◌⊎◌, ℕ, ◌+◌, ◌<◌, ◌^◌, nat_lt, Bool, true, false, not, ◌==◌, ◌&&◌, List, length, Some, None, IsSome, is_some, Result, Ok, Err}
 use Rattle.std.specs.List.{count_by, filter}
 use Rattle.std.specs.FinMap as finite
 use Rattle.std.specs.FinSet as set
@@ -11,11 +11,13 @@ use Rattle.bk_record.specs.Keyed.{ledger_count, without_ledger}
 use Rattle.bk_cache.specs.Caches as caches
 use Rattle.bk_lease.specs.Values.{LeasedView, with_given}
 use Rattle.bk_store.specs.Ledgers.{is_barred, receipt_of, with_add, with_deletion, with_fence}
+use Rattle.bk_store.specs.Fronts.{fronts_after_swap}
 use Rattle.bk_store.specs.Logs.{view_of}
 use Rattle.bk_store.specs.State.{State}
 use Rattle.bk_store.specs.Contents.{written_at, cached_at, holds}
 use Rattle.bk_store.specs.Leasing.{IsLeaseOf, HasLeaseCount}
 use Rattle.bk_store.specs.declared.adding.AddKind.{AddKind}
+use Rattle.bk_store.specs.declared.fronts.Fronts.{Fronts}
 use Rattle.bk_store.specs.declared.answer.Added.{Added}
 use Rattle.bk_store.specs.declared.answer.Added.TheVariants.{Accepted, Held}
 use Rattle.bk_store.specs.declared.answer.AddFault.{AddFault}
@@ -121,13 +123,17 @@ FenceTransition s ledger (Err fence_faults.Memory) t = (is_dead s ledger ≡ fal
 FenceTransition s ledger (Ok fences.Fenced) t = (is_dead s ledger ≡ false) × (is_fenced s ledger ≡ false)
     × (t ≡ record s { ledgers = with_fence s.ledgers ledger })
 
+-- the fronts after a swap with this answer
+abbrev pub swapped_fronts : Swap → State → Fronts
+swapped_fronts answer s = fronts_after_swap answer (length s.ledgers.trail) s.fronts
+
 -- A swap makes the active cache the flushing one, unless a flush is running or the active cache is
--- empty.
+-- empty. It notes how many marks the flush has; if nothing is cached, all marks are durable.
 abbrev pub SwapTransition : State → Swap → State → Type 0
 SwapTransition s Running t = IsSome s.caches.flush × (t ≡ s)
-SwapTransition s Nothing t = (s.caches.flush ≡ None) × (finite.len s.caches.active ≡ 0) × (t ≡ s)
+SwapTransition s Nothing t = (s.caches.flush ≡ None) × (finite.len s.caches.active ≡ 0) × (t ≡ record s { fronts = swapped_fronts Nothing s })
 SwapTransition s (Swapped n) t = (s.caches.flush ≡ None) × (0 < n) × (n ≡ finite.len s.caches.active)
-    × (t ≡ record s { caches = record s.caches { active = finite.empty; flush = Some s.caches.active } })
+    × (t ≡ record s { caches = record s.caches { active = finite.empty; flush = Some s.caches.active }; fronts = swapped_fronts (Swapped n) s })
 
 -- the valid ledgers of a list: those up to the greatest id
 abbrev pub valid_ledgers : List ℕ → Ledgers

@@ -8,9 +8,9 @@ ghost use Rattle.std.specs.Prelude.{◌≡◌};
 use crate::known_ledgers::KnownLedgers;
 use crate::logs::LogTable;
 use crate::places::FlushPlaces;
-use crate::{Job, Settings};
+use crate::{Fronts, Job, Settings};
 use bk_accounts::Accounts;
-use bk_cache::Caches;
+use bk_cache::{CacheNear, Caches};
 use bk_disk::LogDisk;
 use bk_index::Index;
 use bk_lease::Keeper;
@@ -26,6 +26,8 @@ pub(crate) struct Fields<D: LogDisk> {
     pub settings: Settings,
     pub caches: Caches,
     pub places: FlushPlaces,
+    /// Search hint for the next entry of the flush.
+    pub near: CacheNear,
     pub index: Index,
     pub accounts: Accounts,
     pub logs: LogTable<D::View>,
@@ -35,6 +37,7 @@ pub(crate) struct Fields<D: LogDisk> {
     pub filled: Vec<u32>,
     pub next: u32,
     pub ledgers: KnownLedgers,
+    pub fronts: Fronts,
     pub job: Option<Job>,
 }
 
@@ -58,6 +61,7 @@ impl<D: LogDisk> Model for Fields<D> {
         keeper = f.keeper;
         next = f.next;
         ledgers = f.ledgers.known;
+        fronts = f.fronts;
         job = f.job;
       };
       accounts = f.accounts;

@@ -17,7 +17,9 @@ impl<D: LogDisk> Fields<D> {
         ensures transition { SwapTransition self.old.state result self.new.state }
         ensures internals { self.new ≡ record self.old { state = self.new.state } }
     {
-        self.caches.swap()
+        let answer = self.caches.swap();
+        self.fronts = self.fronts.after_swap(&answer, self.ledgers.front());
+        answer
     }
 
     /// Returns whether the disk has lost a log of the flush.
@@ -55,6 +57,7 @@ impl<D: LogDisk> Fields<D> {
         keep_written(&mut self.filled, self.writing);
         self.places.clear();
         self.caches.done();
+        self.fronts = self.fronts.after_flush();
     }
 }
 

@@ -9,6 +9,7 @@ mod deleting;
 mod fencing;
 mod fields;
 mod flushing;
+mod fronts;
 mod indexing;
 mod job;
 mod known_ledgers;
@@ -45,6 +46,7 @@ pub use answer::{
     TakeFault, Taken,
 };
 pub use bk_cache::Swap as SwapAnswer;
+pub use fronts::Fronts;
 pub use job::{Job, Move, Phase, TakenJob};
 pub use laws::{
     add_refines_abstract, delete_keeps_representation, delete_refines_abstract,

@@ -18,9 +18,9 @@ use crate::known_ledgers::KnownLedgers;
 use crate::ledger_set::LedgerSet;
 use crate::logs::LogTable;
 use crate::places::FlushPlaces;
-use crate::{OpenFault, Settings};
+use crate::{Fronts, OpenFault, Settings};
 use bk_accounts::Accounts;
-use bk_cache::Caches;
+use bk_cache::{CacheNear, Caches};
 use bk_disk::LogDisk;
 use bk_index::Index;
 use bk_lease::LeaseTable;
@@ -71,6 +71,7 @@ impl<D: LogDisk> Fields<D> {
             settings,
             caches,
             places: FlushPlaces::new(alloc),
+            near: CacheNear::start(),
             index,
             accounts,
             logs,
@@ -79,6 +80,10 @@ impl<D: LogDisk> Fields<D> {
             filled: Vec::new(alloc),
             next,
             ledgers: KnownLedgers::opened(alloc, dead),
+            fronts: Fronts {
+                swapped: 0,
+                durable: 0,
+            },
             job: None,
         })
     }

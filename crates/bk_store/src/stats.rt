@@ -22,6 +22,8 @@ pub struct Stats {
     pub flushing: u64,
     /// Number of marks in the trail, which is the number of the next mark.
     pub front: u64,
+    /// Number of marks that are durable: the durable front.
+    pub durable: u64,
 }
 
 impl<D: LogDisk> Store<D> {
@@ -33,6 +35,7 @@ impl<D: LogDisk> Store<D> {
         ensures cached { result.cached ≡ used_of self.now.caches.active }
         ensures flushing { result.flushing ≡ used_of (flush_of self.now.caches) }
         ensures front { result.front ≡ length self.now.ledgers.trail }
+        ensures durable { result.durable ≡ self.now.fronts.durable }
         ensures within { result.cached ≤ self.now.caches.limit }
         ensures ids { result.next ≤ 2 ^ 31 }
     {
@@ -44,6 +47,7 @@ impl<D: LogDisk> Store<D> {
             cached: fields.caches.used(),
             flushing: fields.caches.flush_used(),
             front: fields.ledgers.front(),
+            durable: fields.fronts.durable,
         }
     }
 }

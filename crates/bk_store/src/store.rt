@@ -10,7 +10,7 @@ ghost use Rattle.bk_disk.specs.Disk.{AreSound};
 ghost use Rattle.bk_store.specs.Abstract.{SatisfiesInvariant};
 ghost use Rattle.bk_store.specs.Limits.{IsAllowed};
 ghost use Rattle.bk_store.specs.Opening.{IsOpened, NeverFails, OpenFails};
-ghost use Rattle.bk_store.specs.CrashSafety.{SurvivesCrash};
+ghost use Rattle.bk_store.specs.CrashSafety.{SurvivesCrash, DurableMarksSurvive};
 ghost use Rattle.bk_store.specs.Transitions.{AddTransition, TakeTransition, DeleteTransition, FenceTransition, SwapTransition};
 ghost use Rattle.bk_store.specs.declared.adding.AddKind.TheVariants.{Ordinary, Recovery};
 
@@ -195,8 +195,9 @@ impl<D: LogDisk> Store<D> {
         self.fields.delete(ledger)
     }
 
-    /// Begins a flush: makes the active cache the flushing cache. Does nothing if a flush is
-    /// running or the active cache is empty.
+    /// Begins a flush: makes the active cache the flushing cache, and notes the number of marks as
+    /// the swapped front. If a flush is running, nothing changes. If no flush is running and the
+    /// active cache is empty, all marks are durable, and both fronts become their number.
     pub fn swap(&mut self) -> SwapAnswer
         ensures { SwapTransition self.old result self.new }
     {
@@ -224,11 +225,13 @@ impl<D: LogDisk> Store<D> {
     ///
     /// Power may fail before and after any call. A store opened on whatever files are left then,
     /// with at least these deleted ledgers, has each entry of a live ledger that the index had, and
-    /// no entry that this store did not have.
+    /// no entry that this store did not have. So it has each entry whose mark is below the durable
+    /// front.
     pub fn survives_crash(&self) -> &D
         ensures files { D.files result.now ≡ self.now.files }
         ensures honest { D.honest result.now ≡ self.now.honest }
         ensures survives_crash { IsTrue self.now.honest → SurvivesCrash (D.synced result.now) (D.gone result.now) self.now }
+        ensures durable_marks { IsTrue self.now.honest → DurableMarksSurvive (D.synced result.now) (D.gone result.now) self.now }
     {
         self.fields.disk()
     }

@@ -21,7 +21,10 @@ impl<D: LogDisk> Fields<D> {
         ensures parts { AppendNextParts (with_durable_of self.old self.new) result self.new }
         ensures durable { DurableNeverShrinks self.old self.new }
     {
-        let Some(next) = self.caches.flushing_after(self.places.last()) else {
+        let Some(next) = self
+            .caches
+            .flushing_after_near(self.places.last(), &mut self.near)
+        else {
             return Ok(Appended::AllPlaced);
         };
         let Some(log) = self.writing else {

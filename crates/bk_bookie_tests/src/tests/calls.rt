@@ -118,7 +118,7 @@ pub(super) fn shows(
 }
 
 /// Compares the result of a take with the expected payload.
-fn taken_told(alloc: Global, taken: &Taken<View>, key: Key, payload: &[u8]) -> TakeTold {
+pub(super) fn taken_told(alloc: Global, taken: &Taken<View>, key: Key, payload: &[u8]) -> TakeTold {
     match taken {
         Taken::Deleted => TakeTold::Deleted,
         Taken::Cached(found) => {
@@ -196,6 +196,18 @@ pub(super) fn fence<L: AddLedger, R: Wait>(
 ) -> Option<Fence> {
     match bookie.fence(rt, pass, ledger) {
         Ok(answer) => Some(answer),
+        Err(_) => None,
+    }
+}
+
+/// Returns the number of marks and that of durable marks, or `None` if the call is refused.
+pub(super) fn fronts<L: AddLedger, R: Wait>(
+    rt: &R,
+    bookie: &Bookie<L, MemDisk>,
+    pass: &mut Pass<L>,
+) -> Option<(u64, u64)> {
+    match bookie.stats(rt, pass) {
+        Ok(stats) => Some((stats.front, stats.durable)),
         Err(_) => None,
     }
 }

@@ -7,7 +7,6 @@ ghost use Rattle.bk_record.specs.Key.{EntryKey};
 
 use super::Cache;
 use bk_record::{Key, LAST_ID};
-use std::ops::Bound;
 
 impl Cache {
     /// Returns the least entry id of a ledger from this one on.
@@ -16,13 +15,12 @@ impl Cache {
         ensures least { (entry : ℕ) → from ≤ entry → IsSome (map.get self.now (record { ledger = ledger; entry = entry })) → IsSomeAnd result (λ next. next ≤ entry) }
         ensures bound { IfSome result (λ next. next < 2 ^ 63) }
     {
-        let pairs = &self.pairs;
+        let rows = &self.rows;
         let first = Key::new(ledger, from)?;
-        let last = Key::new(ledger, LAST_ID)?;
-        let (key, _) = pairs
-            .range((Bound::Included(first), Bound::Included(last)))
-            .next()?;
-        Some(key.entry())
+        match rows.first_from(&first) {
+            Some((key, _)) if key.ledger() == ledger => Some(key.entry()),
+            _ => None,
+        }
     }
 
     /// Returns the greatest entry id of a ledger.
@@ -30,12 +28,11 @@ impl Cache {
         ensures held { IfSome result (λ last. IsSome (map.get self.now (record { ledger = ledger; entry = last }))) }
         ensures greatest { (entry : ℕ) → IsSome (map.get self.now (record { ledger = ledger; entry = entry })) → IsSomeAnd result (λ last. entry ≤ last) }
     {
-        let pairs = &self.pairs;
-        let first = Key::new(ledger, 0)?;
-        let last = Key::new(ledger, LAST_ID)?;
-        let (key, _) = pairs
-            .range((Bound::Included(first), Bound::Included(last)))
-            .next_back()?;
+        let rows = &self.rows;
+        if ledger > LAST_ID {
+            return None;
+        }
+        let key = rows.last_of(ledger)?;
         Some(key.entry())
     }
 
@@ -45,11 +42,11 @@ impl Cache {
         ensures least { (key : EntryKey) → from ≤ key.ledger → IsSome (map.get self.now key) → IsSomeAnd result (λ next. next ≤ key.ledger) }
         ensures bound { IfSome result (λ next. next < 2 ^ 63) }
     {
-        let pairs = &self.pairs;
+        let rows = &self.rows;
         let first = Key::new(from, 0)?;
-        let (key, _) = pairs
-            .range((Bound::Included(first), Bound::Unbounded))
-            .next()?;
-        Some(key.ledger())
+        match rows.first_from(&first) {
+            Some((key, _)) => Some(key.ledger()),
+            None => None,
+        }
     }
 }

@@ -6,7 +6,7 @@ ghost use Rattle.bk_disk.specs.Doubts.{trouble_of};
 use super::{Folder, Opened};
 use crate::DiskFault;
 use crate::file_fault::{Failed, Operation};
-use crate::kept::KeptLog;
+use crate::kept::{KeptLog, MOST_KEPT};
 use crate::trouble::State;
 use std::alloc::Global;
 use std::fs::{self, File, OpenOptions};
@@ -58,11 +58,11 @@ impl Folder {
         self.troubles.forget(log);
         self.take_back(log);
         self.kept.close(log);
-        self.kept.keep(KeptLog::made(log, file))
+        self.kept.keep(KeptLog::made(alloc, log, file))
     }
 
-    /// Writes at the end of a log's file. If the first write to a file that this disk made fails,
-    /// the file is removed.
+    /// Appends to a log: the bytes are gathered, and written with others later. If the first write
+    /// to a file that this disk made fails, which is done at once, the file is removed.
     pub(crate) fn write_end(
         &mut self,
         alloc: Global,
@@ -75,12 +75,13 @@ impl Folder {
             let opened = self.open_log(alloc, log, OpenOptions::new().append(true))?;
             let Opened { file, found, .. } = opened;
             self.make_room();
-            self.kept.keep(KeptLog::found(log, file, found.len()))?;
+            self.kept
+                .keep(KeptLog::found(alloc, log, file, found.len()))?;
         }
         self.append_kept(alloc, log, bytes)
     }
 
-    // Writes at the end of a log's file that is kept open.
+    // Appends to a log whose file is kept open.
     fn append_kept(&mut self, alloc: Global, log: u32, bytes: &[u8]) -> Result<(), DiskFault> {
         let Some(kept) = self.kept.find(log) else {
             return Err(DiskFault::NoLog);
@@ -91,26 +92,49 @@ impl Folder {
         let is_unwritten = kept.is_unwritten();
         match kept.append(bytes) {
             Ok(()) => Ok(()),
-            Err(failed) => Err(self.fail_append(alloc, log, is_unwritten, failed)),
+            Err(failed) if is_unwritten => Err(self.fail_first(alloc, log, failed)),
+            Err(failed) => Err(self.fail_write(alloc, log, failed)),
         }
     }
 
-    // Notes a failed append, and removes the file if it was the first one to a file that this disk
-    // made.
-    fn fail_append(
-        &mut self,
-        alloc: Global,
-        log: u32,
-        is_unwritten: bool,
-        failed: Failed,
-    ) -> DiskFault {
-        let Ok(path) = self.path_of(alloc, log) else {
-            self.note(log, State::Lost, failed);
-            return DiskFault::Disk;
+    // Writes what was gathered of a log. If this fails, the log is lost.
+    pub(super) fn write_gathered(&mut self, alloc: Global, log: u32) -> Result<(), DiskFault> {
+        let Some(kept) = self.kept.find(log) else {
+            return Ok(());
         };
-        let is_removed = is_unwritten && self.unmake(log, &path);
-        let state = if is_removed { State::Gone } else { State::Lost };
-        self.lose(log, state, path, failed)
+        match kept.write_gathered() {
+            Ok(()) => Ok(()),
+            Err(failed) => Err(self.fail_write(alloc, log, failed)),
+        }
+    }
+
+    // Writes what was gathered of each log, and closes its file. A log of which this fails is lost.
+    pub(super) fn write_all_gathered(&mut self) {
+        let alloc = self.rt.alloc();
+        for _ in 0..MOST_KEPT {
+            if let Some((log, failed)) = self.kept.close_first() {
+                let _ = self.fail_write(alloc, log, failed);
+            }
+        }
+    }
+
+    // Notes a failed write, after which the log is lost.
+    pub(super) fn fail_write(&mut self, alloc: Global, log: u32, failed: Failed) -> DiskFault {
+        match self.path_of(alloc, log) {
+            Ok(path) => self.lose(log, State::Lost, path, failed),
+            Err(_) => {
+                self.note(log, State::Lost, failed);
+                DiskFault::Disk
+            }
+        }
+    }
+
+    // Notes the failed first write to a file that this disk made, and removes the file.
+    fn fail_first(&mut self, alloc: Global, log: u32, failed: Failed) -> DiskFault {
+        match self.path_of(alloc, log) {
+            Ok(path) if self.unmake(log, &path) => self.lose(log, State::Gone, path, failed),
+            _ => self.fail_write(alloc, log, failed),
+        }
     }
 
     // Removes the open file of a log if the name still leads to it. Returns whether it is removed.
@@ -129,13 +153,14 @@ impl Folder {
         true
     }
 
-    /// Syncs a log's file. If somebody removed the file, its bytes are lost. A log that is lost
-    /// stays so.
+    /// Writes what was gathered of a log, and syncs its file. If somebody removed the file, its
+    /// bytes are lost. A log that is lost stays so.
     pub(crate) fn write_through(&mut self, alloc: Global, log: u32) -> Result<(), DiskFault>
         ensures lost { IsSome (trouble_of self.old.troubles log) → is_ok result ≡ false }
         ensures stays { IsSome (trouble_of self.old.troubles log) → self.new.troubles ≡ self.old.troubles }
     {
         self.check_trouble(alloc, log)?;
+        self.write_gathered(alloc, log)?;
         let path = match self.seek(alloc, log) {
             Ok((path, _)) => path,
             Err(fault) => {
@@ -166,9 +191,10 @@ impl Folder {
         }
     }
 
-    /// Removes a log's file and the file that sets it aside, and syncs the directory. If this fails
-    /// with `Disk`, a second call does the rest. If another file has the name of a log that this
-    /// disk writes, the file stays.
+    /// Removes a log's file and the file that sets it aside, and syncs the directory. What was
+    /// gathered of the log is dropped, or written if the file cannot be removed. If this fails with
+    /// `Disk`, a second call does the rest. If another file has the name of a log that this disk
+    /// writes, the file stays.
     pub(crate) fn unlink(&mut self, alloc: Global, log: u32) -> Result<(), DiskFault> {
         self.begin_write(alloc)?;
         let path = match self.seek(alloc, log) {
@@ -183,16 +209,26 @@ impl Folder {
                 self.kept.close(log);
                 self.end_removal(log)
             }
-            Err(reason) => Err(self.fail_removal(log, path, reason)),
+            Err(reason) => Err(self.fail_removal(alloc, log, path, reason)),
         }
     }
 
-    // Notes a removal that failed.
-    fn fail_removal(&mut self, log: u32, path: String, reason: io::Error) -> DiskFault {
+    // Notes a removal that failed. The file stays open no longer.
+    fn fail_removal(
+        &mut self,
+        alloc: Global,
+        log: u32,
+        path: String,
+        reason: io::Error,
+    ) -> DiskFault {
         let failed = Failed::new(Operation::Remove, reason);
         match reason.kind() {
             ErrorKind::NotFound => self.refuse_log(path, failed),
-            _ => self.lose(log, State::Gone, path, failed),
+            _ => {
+                // The log is still there, with all that was appended.
+                let _ = self.write_gathered(alloc, log);
+                self.lose(log, State::Gone, path, failed)
+            }
         }
     }
 

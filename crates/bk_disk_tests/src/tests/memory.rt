@@ -144,3 +144,30 @@ fn a_lost_log_is_set_aside_or_reported(rt: HostRuntime) {
     assert!(rt; begin_again(&rt, "bk_disk_memory_lost"));
     assert!(rt; fs::remove_dir(&rt, "bk_disk_memory_lost").is_ok());
 }
+
+// Appends pieces, of which the later ones are gathered if there is memory for the window.
+const PIECES: [Call<'static>; 5] = [
+    Call::Create(2),
+    Call::Append(2, b"0123456789"),
+    Call::Append(2, b"abc"),
+    Call::Append(2, b"defghij"),
+    Call::Sync(2),
+];
+
+// Whether each call succeeds, made again if memory is refused.
+fn are_written(rt: &HostRuntime, disk: &mut DirDisk) -> bool {
+    PIECES
+        .iter()
+        .all(|call| fault_of(rt, disk, *call).is_none())
+}
+
+#[test]
+fn what_is_appended_without_memory_for_a_window_is_written(rt: HostRuntime) {
+    assert!(rt; begin_again(&rt, "bk_disk_memory_window"));
+    let mut disk = open_again(&rt, "bk_disk_memory_window").expect(&rt, "a disk");
+    assert!(rt; are_written(&rt, &mut disk));
+    assert!(rt; has_bytes(&rt, "bk_disk_memory_window/2.log"));
+    drop(disk);
+    assert!(rt; begin_again(&rt, "bk_disk_memory_window"));
+    assert!(rt; fs::remove_dir(&rt, "bk_disk_memory_window").is_ok());
+}

@@ -8,7 +8,7 @@ ghost use Rattle.bk_index.specs.Pages.{all_pairs, HoldsLedger};
 
 use super::Pages;
 use crate::Walk;
-use crate::page::Page;
+use crate::page::{Page, Part};
 
 impl Pages {
     /// Returns an iterator over the keys of a ledger and their locations, in key order.
@@ -19,8 +19,8 @@ impl Pages {
     {
         let (from, to) = self.pages_of(ledger);
         match &self.list[from..to] {
-            [] => Walk::over(&[], &[], &[]),
-            [page] => Walk::over(page.of_ledger(ledger), &[], &[]),
+            [] => Walk::over(Part::empty(), &[], Part::empty()),
+            [page] => Walk::over(page.of_ledger(ledger), &[], Part::empty()),
             [first, between @ .., last] => {
                 Walk::over(first.of_ledger(ledger), between, last.of_ledger(ledger))
             }

@@ -187,6 +187,7 @@ const COUNTS: Stats = Stats {
     cached: 119,
     flushing: 136,
     front: 15,
+    durable: 0,
 };
 
 #[test]

@@ -19,16 +19,17 @@ pub(crate) fn step_of(name: &str, numbers: Numbers, last_reader: u32) -> Option<
     ensures { result ≡ formed last_reader name.now (listed numbers) }
 {
     match name {
-        "swap" => alone(numbers, Work::Swap),
-        "write" => alone(numbers, Work::WriteOne),
-        "publish" => alone(numbers, Work::Publish),
-        "roll" => alone(numbers, Work::Roll),
-        "rebuild" => alone(numbers, Work::Rebuild),
-        "minor" => alone(numbers, Work::Begin(Kind::Minor)),
-        "major" => alone(numbers, Work::Begin(Kind::Major)),
-        "end" => alone(numbers, Work::EndCopy),
-        "finish" => alone(numbers, Work::Finish),
-        "giveup" => alone(numbers, Work::GiveUp),
+        "swap" => alone(numbers, Step::Work(Work::Swap)),
+        "write" => alone(numbers, Step::Work(Work::WriteOne)),
+        "publish" => alone(numbers, Step::Work(Work::Publish)),
+        "roll" => alone(numbers, Step::Work(Work::Roll)),
+        "rebuild" => alone(numbers, Step::Work(Work::Rebuild)),
+        "minor" => alone(numbers, Step::Work(Work::Begin(Kind::Minor))),
+        "major" => alone(numbers, Step::Work(Work::Begin(Kind::Major))),
+        "end" => alone(numbers, Step::Work(Work::EndCopy)),
+        "finish" => alone(numbers, Step::Work(Work::Finish)),
+        "giveup" => alone(numbers, Step::Work(Work::GiveUp)),
+        "stats" => alone(numbers, Step::Stats),
         "retire" => Some(Step::Work(Work::Retire(log(numbers)?))),
         "close" => Some(Step::Work(Work::Close(log(numbers)?))),
         "remove" => Some(Step::Work(Work::Remove(log(numbers)?))),
@@ -49,10 +50,10 @@ pub(crate) fn step_of(name: &str, numbers: Numbers, last_reader: u32) -> Option<
 }
 
 /// Returns the step of a word without numbers.
-fn alone(numbers: Numbers, work: Work) -> Option<Step>
-    ensures { result ≡ (if fits 0 [] (listed numbers) then Some (steps.Work work) else None) }
+fn alone(numbers: Numbers, step: Step) -> Option<Step>
+    ensures { result ≡ (if fits 0 [] (listed numbers) then Some step else None) }
 {
-    numbers.are_none().then_some(Step::Work(work))
+    numbers.are_none().then_some(step)
 }
 
 /// Returns the log id that the only number is.

@@ -1,7 +1,7 @@
 use super::{is_shown, run};
 
 /// Scripts and their output.
-static SCRIPTS: [(&str, &str); 15] = [
+static SCRIPTS: [(&str, &str); 16] = [
     ("", ""),
     ("\n\n", ""),
     ("swap", "nothing\n"),
@@ -28,6 +28,10 @@ static SCRIPTS: [(&str, &str); 15] = [
         "no job\nno job\nno job\nno job\nno job\n",
     ),
     (
+        "add 1 0 a\nstats\nswap\nstats",
+        "accepted\nstats cached 17 flushing 0 marks 1 durable 0\nswapped 1\nstats cached 0 flushing 17 marks 1 durable 0\n",
+    ),
+    (
         "minor\nmajor\nremove 2147483647",
         "nothing to do\nnothing to do\nno log\n",
     ),
@@ -46,7 +50,7 @@ fn lines_are_read_to_the_letter(rt: HostRuntime) {
 }
 
 /// Lines that encode no step.
-static NO_STEPS: [&str; 105] = [
+static NO_STEPS: [&str; 107] = [
     "add 1 0 ",
     "add 1",
     "add",
@@ -140,6 +144,8 @@ static NO_STEPS: [&str; 105] = [
     "roll ",
     "roll 0",
     "Roll",
+    "stats ",
+    "stats 0",
     "swap ",
     " swap",
     "swap 1",

@@ -283,7 +283,8 @@ public final class Bookie implements AutoCloseable {
 
     // ---- end
 
-    /** Ends the session in order: everything that was accepted is durable then. A second close does nothing. */
+    /** Ends the session in order: everything that was accepted is durable then. If the flush fails, the session ends too, and
+     * the exception is why. A second close does nothing. */
     @Override
     public void close() throws IOException {
         boolean isOver;

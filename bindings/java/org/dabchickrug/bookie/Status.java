@@ -38,7 +38,7 @@ public enum Status {
     DURABLE(48, 1, 0, 0),
     /** Fields: logs, entries. */
     COMPACTED(49, 2, 0, 0),
-    /** Fields: logs, bytes, live, cached, leases, failures, next_log, front. */
+    /** Fields: logs, bytes, live, cached, indexed, durable, next_log, front. */
     FIGURES(50, 8, 0, 0),
     /** Fields: log. */
     SEALED(51, 1, 0, 0),

@@ -96,7 +96,7 @@ public final class TestBookie {
         return HexFormat.of().formatHex(copy);
     }
 
-    /** Returns whether the server has every call but stats; else it has none that lists, and no attributes. */
+    /** Returns whether the server has every call; else it has none that lists, no attributes and no stats. */
     private static boolean offersAll(Bookie bookie) throws IOException {
         return !refusal(() -> bookie.ledgers(0)).equals("not_offered");
     }
@@ -203,8 +203,9 @@ public final class TestBookie {
         print("is fenced", bookie.isFenced(1), bookie.isFenced(3));
     }
 
-    private static void failures(Bookie bookie) throws IOException {
-        if (!refusal(bookie::stats).equals("not_offered")) print("failures", bookie.stats().numbers()[5]);
+    private static void figures(Bookie bookie) throws IOException {
+        long[] found = bookie.stats().numbers();
+        print("figures", found[7], found[3], found[4], found[2] <= found[1] && found[5] <= found[7]);
     }
 
     private static void firstSession(Bookie bookie) throws IOException, InterruptedException {
@@ -222,7 +223,7 @@ public final class TestBookie {
         print("negative", refusal(() -> bookie.add(Long.MIN_VALUE, 0, X)));
         if (offersAll(bookie)) {
             attributes(bookie);
-            failures(bookie);
+            figures(bookie);
         }
         print("deleted", bookie.delete(2), refusal(() -> bookie.delete(2)), refusal(() -> bookie.read(2, 0)), refusal(() -> bookie.add(2, 0, X)));
         print("holds", bookie.holds(2, 0));

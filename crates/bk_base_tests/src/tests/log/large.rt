@@ -17,7 +17,7 @@ use std::process::Abort;
 const LAST: u64 = i64::MAX as u64;
 
 /// A log of `records` records of one size, of `mask + 1` ledgers, each with `each` bytes of
-/// records. A scan lends the payload of `lent` of them: those that no window cuts.
+/// records. A scan lends the payload of `lent` of them: those that lie in one block of the disk.
 #[derive(Clone, Copy)]
 struct Shape {
     records: u32,
@@ -27,16 +27,16 @@ struct Shape {
     lent: u32,
 }
 
-/// Records of 50 bytes, of which seven windows, of 1,024 to 65,536 bytes, end in one; eighteen
-/// records of 1,100,004 bytes, longer than a window; three records of each of 4,096 ledgers, of 24
-/// bytes, whose heads no window has alone.
+/// Records of 50 bytes, of which three lie in two blocks of 65,536 bytes; eighteen records of
+/// 1,100,004 bytes, longer than a block; three records of each of 4,096 ledgers, of 24 bytes, of
+/// which two lie in two blocks.
 static SHAPES: [Shape; 3] = [
     Shape {
         records: 5_000,
         mask: 0,
         payload: 46,
         each: 250_000,
-        lent: 4_993,
+        lent: 4_997,
     },
     Shape {
         records: 18,
@@ -50,7 +50,7 @@ static SHAPES: [Shape; 3] = [
         mask: 4_095,
         payload: 20,
         each: 72,
-        lent: 12_288,
+        lent: 12_286,
     },
 ];
 

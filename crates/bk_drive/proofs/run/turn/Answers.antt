@@ -1,10 +1,10 @@
 use Rattle.std.proofs.Common.{subst}
 use Rattle.bk_store.specs.Transitions.{AddTransition}
 use Rattle.bk_store.specs.declared.adding.AddKind.TheVariants.{Ordinary, Recovery}
-use Rattle.bk_drive.specs.Machine.MachineTransition.{added, recovered, deleted, fenced, taken, fetched, released, asked}
+use Rattle.bk_drive.specs.Machine.MachineTransition.{added, recovered, deleted, fenced, taken, fetched, released, asked, counted}
 use Rattle.bk_drive.proofs.Leases.{leases_same, shut_same, take_leases, take_shut, release_leases}
 use Rattle.bk_drive.proofs.Runs.{add_logs, delete_logs, fence_logs}
-use Rattle.bk_drive.proofs.Simulation.{turn_worked, goes_worked, goes_added, goes_recovered, goes_deleted, goes_fenced, goes_taken, goes_fetched, goes_released, goes_asked}
+use Rattle.bk_drive.proofs.Simulation.{turn_worked, goes_worked, goes_added, goes_recovered, goes_deleted, goes_fenced, goes_taken, goes_fetched, goes_released, goes_asked, goes_counted}
 use Rattle.bk_drive.proofs.run.turn.Goals as goal
 
 pub returns-in-Work-clause-transition : goal.returns-in-Work-clause-transition
@@ -111,3 +111,9 @@ returns-in-Read-clause-transition g c = rw c.in-Read.is (asked c.read_ledgers.en
 
 pub returns-in-Read-clause-plain : goal.returns-in-Read-clause-plain
 returns-in-Read-clause-plain g c = λ honest. rw c.in-Read.is (goes_asked _ _ c.reveal_invariant.ensures honest _ _ c.read_ledgers.ensures)
+
+pub returns-in-Stats-clause-transition : goal.returns-in-Stats-clause-transition
+returns-in-Stats-clause-transition g c = rw c.in-Stats.is (counted c.count.ensures)
+
+pub returns-in-Stats-clause-plain : goal.returns-in-Stats-clause-plain
+returns-in-Stats-clause-plain g c = λ honest. rw c.in-Stats.is (goes_counted _ _ _ c.count.ensures)

@@ -14,3 +14,6 @@ returns-in-Ok g c = (c.compact_both.new.tally, of_request _ _ _ _ refl c.compact
 
 pub returns-in-Err : goal.returns-in-Err
 returns-in-Err g c = (c.compact_both.new.tally, of_request _ _ _ _ refl c.compact_both.ensures)
+
+pub returns-then-is_busy : goal.returns-then-is_busy
+returns-then-is_busy g c = (no_tally, none)

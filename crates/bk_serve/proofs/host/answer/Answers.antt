@@ -70,4 +70,4 @@ pub returns-in-Ledgers : goal.returns-in-Ledgers
 returns-in-Ledgers g c = rw c.in-Ledgers.is (c.ledgers.ensures.0, (c.ledgers.ensures.1, (refl, refl)), c.ledgers.ensures.2)
 
 pub returns-in-Stats : goal.returns-in-Stats
-returns-in-Stats g c = rw c.in-Stats.is (refused f.NotOffered, (refl, (refl, refl)), c.not_offered-in-Stats.ensures)
+returns-in-Stats g c = rw c.in-Stats.is (told c.figures.result, (c.figures.ensures, (refl, refl)), c.encode-in-Stats.ensures.ok)

@@ -1,6 +1,6 @@
 use Rattle.std.proofs.Common.{◌≡◌, true, false, is_some, length, not, refl, ap, ◌∙◌, arith}
 use Rattle.bk_cache.specs.Caches.{write_cached_payload}
-use Rattle.bk_store.proofs.Unnaming.{one_if, goes_first, goes_on, alone-le, alone-more, all_counted}
+use Rattle.bk_store.proofs.Unnaming.{one_if, goes_first, goes_on, named-more, alone-le, alone-more, all_counted}
 use Rattle.bk_store.proofs.deleting.unname_ledger.Goals as goal
 
 pub loop-key-init : goal.loop-key-init
@@ -26,6 +26,11 @@ overflow_add-alone c =
       ap length c.walk_ledger-key-items.ensures.items,
       c.walk_ledger-key-items.ensures.bound,
     )
+
+pub unname-requires : goal.unname-requires
+unname-requires c =
+    let coming = rw c.in-Some.ensures.steps at c.loop-key.invariant in
+    rw c.log.ensures.value (named-more (c.in-Some.key, c.in-Some.location) c.next.new.self coming)
 
 pub loop-key-preserved : goal.loop-key-preserved
 loop-key-preserved c =

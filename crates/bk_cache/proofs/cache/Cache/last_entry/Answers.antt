@@ -1,25 +1,27 @@
 use Rattle.std.proofs.Common.{arith}
-use Rattle.bk_cache.proofs.CacheOrder.{held_ids, no_entry, last_found, last_greatest}
+use Rattle.bk_cache.proofs.CacheOrder.{held_ids, no_last, last_held, last_entry, named, unnamed}
 use Rattle.bk_cache.proofs.cache.Cache.last_entry.Goals as goal
 
 -- no key has such a ledger
-pub returns-in_err-first-clause-greatest : goal.returns-in_err-first-clause-greatest
-returns-in_err-first-clause-greatest c entry there =
-    let ids = held_ids (λ p. p.value.items) c.self.inside.pairs c.self.inside.used c.self.invariant _ c.self.view_is _ there in
-    absurd (c.in_err-first.ensures (ids.0, omega arith))
+pub returns-then-ledger-gt-LAST_ID-clause-greatest : goal.returns-then-ledger-gt-LAST_ID-clause-greatest
+returns-then-ledger-gt-LAST_ID-clause-greatest c entry there =
+    let ids = held_ids c.self.inside.rows c.self.inside.len c.self.inside.used c.self.invariant c.args.self.now c.self.view_is _ there in
+    omega (arith, ids.0)
 
--- the range is empty
+-- the ledger has no entry
 pub returns-in_err-key-clause-greatest : goal.returns-in_err-key-clause-greatest
 returns-in_err-key-clause-greatest c entry there =
-    absurd (no_entry (λ p. p.value.items) c.self.inside.pairs c.self.inside.used c.self.invariant _ c.self.view_is c.args.ledger 0 _ _
-    c.in_ok-first.ensures.1 c.in_ok-last.ensures.1 _ (c.range.ensures.in_range tt) c.in_err-key.ensures.steps.0 entry (omega arith) there)
+    absurd (no_last c.self.inside.rows c.self.inside.len c.self.inside.used c.self.invariant c.args.self.now c.self.view_is c.args.ledger
+    (unnamed _ c.in_err-key.ensures) entry there)
 
 pub returns-clause-held : goal.returns-clause-held
-returns-clause-held c = rw c.entry.ensures.value
-    ((last_found (λ p. p.value.items) c.self.inside.pairs c.self.inside.used c.self.invariant _ c.self.view_is c.args.ledger 0 _ _
-    c.in_ok-first.ensures.1 c.in_ok-last.ensures.1 _ (c.range.ensures.in_range tt) _ _ c.in_ok-key.ensures.steps).1)
+returns-clause-held c =
+    let x = named c.in_ok-key.key _ c.in_ok-key.ensures in
+    rw (c.entry.ensures.value, x.2)
+    (last_held c.self.inside.rows c.self.inside.len c.self.inside.used c.self.invariant c.args.self.now c.self.view_is c.args.ledger x.0 x.1)
 
 pub returns-clause-greatest : goal.returns-clause-greatest
-returns-clause-greatest c entry there = rw c.entry.ensures.value
-    (last_greatest (λ p. p.value.items) c.self.inside.pairs c.self.inside.used c.self.invariant _ c.self.view_is c.args.ledger 0 _ _
-    c.in_ok-first.ensures.1 c.in_ok-last.ensures.1 _ (c.range.ensures.in_range tt) _ _ c.in_ok-key.ensures.steps entry (omega arith) there)
+returns-clause-greatest c entry there =
+    let x = named c.in_ok-key.key _ c.in_ok-key.ensures in
+    rw (c.entry.ensures.value, x.2)
+    (last_entry c.self.inside.rows c.self.inside.len c.self.inside.used c.self.invariant c.args.self.now c.self.view_is c.args.ledger x.0 x.1 entry there)

@@ -1,25 +1,40 @@
-use Rattle.std.proofs.Common.{arith}
-use Rattle.bk_cache.proofs.CacheOrder.{held_ids, no_entry, first_found, first_least}
+use Rattle.std.proofs.Common.{◌≡◌, inr, refl, sym, ◌∙◌, arith, rules}
+use Rattle.bk_cache.proofs.CacheOrder.{held_ids, no_first, entry_from, entry_held, entry_least, entry_none, no_value}
 use Rattle.bk_cache.proofs.cache.Cache.next_entry.Goals as goal
 
 -- no key has such ids
 pub returns-in_err-first-clause-least : goal.returns-in_err-first-clause-least
 returns-in_err-first-clause-least c entry above there =
-    let ids = held_ids (λ p. p.value.items) c.self.inside.pairs c.self.inside.used c.self.invariant _ c.self.view_is _ there in
+    let ids = held_ids c.self.inside.rows c.self.inside.len c.self.inside.used c.self.invariant c.args.self.now c.self.view_is _ there in
     absurd (c.in_err-first.ensures (ids.0, omega (arith, above, ids.1)))
 
--- the range is empty
-pub returns-in_err-key-clause-least : goal.returns-in_err-key-clause-least
-returns-in_err-key-clause-least c entry above there =
-    absurd (no_entry (λ p. p.value.items) c.self.inside.pairs c.self.inside.used c.self.invariant _ c.self.view_is c.args.ledger c.args.from _ _
-    c.in_ok-first.ensures.1 c.in_ok-last.ensures.1 _ (c.range.ensures.in_range tt) c.in_err-key.ensures.steps.0 entry above there)
+pub returns-in-Some-clause-held : goal.returns-in-Some-clause-held
+returns-in-Some-clause-held c =
+    let own : c.in-Some.key.ledger ≡ c.args.ledger = sym c.ledger.ensures.value ∙ c.if-ledger.true in
+    let value : c.entry.result ≡ c.in-Some.key.entry = search rules in
+    rw value (
+      entry_from c.self.inside.rows c.self.inside.len c.self.inside.used c.self.invariant c.args.self.now c.self.view_is c.args.ledger c.args.from
+          c.in_ok-first.first c.in_ok-first.ensures.1 _ c.in-Some.ensures own,
+      entry_held c.self.inside.rows c.self.inside.len c.self.inside.used c.self.invariant c.args.self.now c.self.view_is c.args.ledger c.args.from
+          c.in_ok-first.first c.in_ok-first.ensures.1 _ c.in-Some.ensures own,
+    )
 
-pub returns-clause-held : goal.returns-clause-held
-returns-clause-held c = rw c.entry.ensures.value
-    (first_found (λ p. p.value.items) c.self.inside.pairs c.self.inside.used c.self.invariant _ c.self.view_is c.args.ledger c.args.from _ _
-    c.in_ok-first.ensures.1 c.in_ok-last.ensures.1 _ (c.range.ensures.in_range tt) _ _ c.in_ok-key.ensures.steps)
+pub returns-in-Some-clause-least : goal.returns-in-Some-clause-least
+returns-in-Some-clause-least c entry above there =
+    let own : c.in-Some.key.ledger ≡ c.args.ledger = sym c.ledger.ensures.value ∙ c.if-ledger.true in
+    let value : c.entry.result ≡ c.in-Some.key.entry = search rules in
+    rw value
+    (entry_least c.self.inside.rows c.self.inside.len c.self.inside.used c.self.invariant c.args.self.now c.self.view_is c.args.ledger c.args.from
+    c.in_ok-first.first c.in_ok-first.ensures.1 _ c.in-Some.ensures own entry above there)
 
-pub returns-clause-least : goal.returns-clause-least
-returns-clause-least c entry above there = rw c.entry.ensures.value
-    (first_least (λ p. p.value.items) c.self.inside.pairs c.self.inside.used c.self.invariant _ c.self.view_is c.args.ledger c.args.from _ _
-    c.in_ok-first.ensures.1 c.in_ok-last.ensures.1 _ (c.range.ensures.in_range tt) _ _ c.in_ok-key.ensures.steps entry above there)
+-- the first key from there on is of another ledger
+pub returns-in_default-clause-least : goal.returns-in_default-clause-least
+returns-in_default-clause-least c entry above there =
+    entry_none c.self.inside.rows c.self.inside.len c.self.inside.used c.self.invariant c.args.self.now c.self.view_is c.args.ledger c.args.from
+    c.in_ok-first.first c.in_ok-first.ensures.1 _ c.in-Some.ensures (λ own. c.if-ledger.false (c.ledger.ensures.value ∙ own)) entry above there
+
+-- there is none
+pub returns-in_default-2-clause-least : goal.returns-in_default-2-clause-least
+returns-in_default-2-clause-least c entry above there =
+    no_first c.self.inside.rows c.self.inside.len c.self.inside.used c.self.invariant c.args.self.now c.self.view_is c.args.ledger c.args.from
+    c.in_ok-first.first c.in_ok-first.ensures.1 (no_value _ c.first_from.result _ c.in_default.is c.first_from.ensures) _ there (inr (refl, above))

@@ -1,46 +1,56 @@
-use Rattle.std.proofs.Common.{rules, ◌≡◌, length, ap, arith}
+use Rattle.std.proofs.Common.{◌≡◌, length, is_some, ap, ◌∙◌, arith, rules}
+use Rattle.std.specs.FinMap.{from_sorted}
 use Rattle.std.proofs.lemmas.Result.{err_from_is_err_and}
-use Rattle.bk_cache.proofs.CachePairs.{used_seen, kept_inserted, view_inserted, absent_view, held_view, view_same}
+use Rattle.bk_cache.proofs.KeptPairs.{used_is, many, get_is, put_is, kept_put}
 use Rattle.bk_cache.proofs.cache.Cache.put.Goals as goal
 
-pub overflow_add-self : goal.overflow_add-self
-overflow_add-self c =
-    let used = used_seen (λ p. p.value.items) _ _ c.self.invariant _ c.self.view_is in
-    omega (arith, used, c.requires.fits, ap (λ v. length v.items) c.deref.ensures)
-
--- an allocation for the pair failed
-pub returns-in_err-self-inside : goal.returns-in_err-self-inside
-returns-in_err-self-inside c =
+-- an allocation failed
+pub returns-in_err-put : goal.returns-in_err-put
+returns-in_err-put c =
     let told = err_from_is_err_and c.from_residual.result c.from_residual.ensures.1 in
-    rw told.1
-    (record {
+    rw told.1 (record {
       transition = (
-        absent_view (λ p. p.value.items) _ _ c.self.invariant _ c.self.view_is c.args.key (search rules),
-        view_same (λ p. p.value.items) _ _ c.self.invariant _ c.self.view_is _ (search rules),
+        get_is c.self.inside.rows c.self.inside.len c.self.inside.used c.self.invariant c.args.self.now c.self.view_is c.args.key ∙ c.in_err-put.ensures.0,
+        ap from_sorted c.in_err-put.ensures.1 ∙ c.self.view_is,
       );
     })
 
 -- the cache has the key
-pub returns-in-Occupied : goal.returns-in-Occupied
-returns-in-Occupied c = record {
-  transition = (
-    held_view (λ p. p.value.items) _ _ c.self.invariant _ c.self.view_is c.args.key (search rules),
-    view_same (λ p. p.value.items) _ _ c.self.invariant _ c.self.view_is _ (search rules),
-  );
-}
+pub returns-then-not-branch : goal.returns-then-not-branch
+returns-then-not-branch c =
+    let turn = rw c.if-not-branch.true at c.in_ok-put.ensures in
+    record {
+      transition = (
+        ap is_some (get_is c.self.inside.rows c.self.inside.len c.self.inside.used c.self.invariant c.args.self.now c.self.view_is c.args.key) ∙ turn.0,
+        ap from_sorted turn.1 ∙ c.self.view_is,
+      );
+    }
 
--- the pair is added
-pub invariant_of-self-in-Vacant : goal.invariant_of-self-in-Vacant
-invariant_of-self-in-Vacant c =
-    let absent = absent_view (λ p. p.value.items) _ _ c.self.invariant _ c.self.view_is c.args.key (search rules) in
-    let size : c.len.result ≡ length c.args.payload.value.items = omega (arith, ap (λ v. length v.items) c.deref.ensures) in
-    rw size
-    (kept_inserted (λ p. p.value.items) _ _ c.self.invariant _ c.self.view_is c.args.key c.args.payload _ (search rules) c.requires.keyed absent)
+pub overflow_add-self : goal.overflow_add-self
+overflow_add-self c = omega (arith, many c.self.inside.rows c.self.inside.len c.self.inside.used c.self.invariant)
 
-pub returns-in-Vacant : goal.returns-in-Vacant
-returns-in-Vacant c = record {
-  transition = (
-    absent_view (λ p. p.value.items) _ _ c.self.invariant _ c.self.view_is c.args.key (search rules),
-    view_inserted (λ p. p.value.items) _ _ c.self.invariant _ c.self.view_is c.args.key c.args.payload _ (search rules),
-  );
-}
+pub overflow_add-self-2 : goal.overflow_add-self-2
+overflow_add-self-2 c =
+    let size : c.len-size.result ≡ length c.args.payload.value.items = search rules in
+    let used = used_is c.self.inside.rows c.self.inside.len c.self.inside.used c.self.invariant c.args.self.now c.self.view_is in
+    omega (arith, size, used, c.requires.fits)
+
+-- the payload is added
+pub invariant_of-self-2 : goal.invariant_of-self-2
+invariant_of-self-2 c =
+    let turn = rw c.if-not-branch.false at c.in_ok-put.ensures in
+    let size : c.len-size.result ≡ length c.args.payload.value.items = search rules in
+    rw (size, turn.1)
+    (kept_put c.self.inside.rows c.self.inside.len c.self.inside.used c.self.invariant c.args.key c.args.payload.value.items c.requires.keyed turn.0)
+
+pub returns : goal.returns
+returns c =
+    let turn = rw c.if-not-branch.false at c.in_ok-put.ensures in
+    record {
+      transition = (
+        get_is c.self.inside.rows c.self.inside.len c.self.inside.used c.self.invariant c.args.self.now c.self.view_is c.args.key ∙ turn.0,
+        ap from_sorted turn.1
+            ∙ put_is c.self.inside.rows c.self.inside.len c.self.inside.used c.self.invariant c.args.self.now c.self.view_is c.args.key
+            c.args.payload.value.items,
+      );
+    }

@@ -6,5 +6,5 @@ pub returns : goal.returns
 returns c =
     let looked = c.in_ok-page.ensures.lookup in
     let pages = c.deref.ensures.value ∙ c.self.view_is in
-    c.get_near.ensures ∙ sym (find_there c.args.self.now c.home_near-at.result (rw pages at looked.3.0) c.in_ok-page.page.now
-    (rw pages at looked.1) c.args.key.now c.home_near-at.ensures.home)
+    c.get_near.ensures ∙ sym (find_there c.args.self.now c.home-at.result (rw pages at looked.3.0) c.in_ok-page.page.now
+    (rw pages at looked.1) c.args.key.now c.home-at.ensures.home)

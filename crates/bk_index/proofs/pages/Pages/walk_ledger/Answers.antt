@@ -1,4 +1,4 @@
-use Rattle.std.proofs.Common.{◌<◌, ◌+◌, ◌-◌, [], ◌++◌, length, take, drop, ap, sym, ◌∙◌, arith}
+use Rattle.std.proofs.Common.{◌<◌, ◌+◌, ◌-◌, ◌++◌, length, take, drop, ap, sym, ◌∙◌, arith}
 use Rattle.std.specs.Bool.{◌==◌}
 use Rattle.std.specs.List.{filter}
 use Rattle.bk_record.specs.Key.{EntryKey}
@@ -15,7 +15,7 @@ returns-in-empty-clause-items c =
     let to = c.pages_of-from.result.1 in
     let holds = c.pages_of-from.ensures in
     let is = ap (λ ps. take (to - from) (drop from ps)) (c.deref.ensures.value ∙ c.self.view_is) in
-    c.over.ensures ∙ sym (held_none pages c.args.ledger from to holds
+    c.over.ensures ∙ (λ i. c.empty.ensures i ++ c.empty-in-empty.ensures i) ∙ sym (held_none pages c.args.ledger from to holds
     (omega (arith, part_length pages c.args.ledger from to holds _ is, c.in-empty.len_below, holds.order)))
 
 pub returns-in-len1-clause-items : goal.returns-in-len1-clause-items
@@ -27,7 +27,8 @@ returns-in-len1-clause-items c =
     let is = ap (λ ps. take (to - from) (drop from ps)) (c.deref.ensures.value ∙ c.self.view_is) in
     let long = part_length pages c.args.ledger from to holds _ is in
     let one = c.page-item.is ∙ part_first pages c.args.ledger from to holds _ is c.page-item.result (omega (arith, long, c.in-len1.len_at_least)) in
-    c.over-in-len1.ensures ∙ ap (λ ps. ps ++ []) (c.of_ledger.ensures ∙ ap (filter (λ e. e.0.ledger == c.args.ledger)) one)
+    let own = c.of_ledger.ensures ∙ ap (filter (λ e. e.0.ledger == c.args.ledger)) one in
+    c.over-in-len1.ensures ∙ (λ i. own i ++ c.empty-in-len1.ensures i)
     ∙ sym (held_one pages c.args.ledger from to holds (omega (arith, long, c.in-len1.len_at_least, c.in-len1.len_below)))
 
 pub returns-in-len2-up-clause-items : goal.returns-in-len2-up-clause-items

@@ -1,8 +1,15 @@
 use Rattle.std.proofs.Common.{◌≡◌, arith, sym, ◌∙◌, Some, [], ap, Bor, List, ℕ}
+use Rattle.std.specs.Fmt.{decimal}
+use Rattle.bk_script.specs.Line.{followed}
 use Rattle.bk_script.proofs.Words.{empty_from_test, filled_from_test}
 use Rattle.bk_script.proofs.Parts.{add_text_of}
 use Rattle.bk_script.proofs.Lines.{add_words, spelled_add, spelled_add_text}
 use Rattle.bk_script.proofs.line.calls.read_add.Goals as goal
+
+pub returns-in_default-clause-bad : goal.returns-in_default-clause-bad
+returns-in_default-clause-bad c = λ _ step spells.
+    let t = add_text_of _ _ _ step (omega (arith, c.ranges.last_reader.fits)) spells in
+    c.in_default.ensures.none t.ledger (followed (decimal t.entry) t.rest) (let h = t.ledger_fits in omega arith) t.is
 
 pub returns-in_default-number-clause-bad : goal.returns-in_default-number-clause-bad
 returns-in_default-number-clause-bad c = λ _ step spells.

@@ -1,8 +1,7 @@
-use Rattle.std.proofs.Common.{◌≡◌, get_or, false, is_err, IsTrue, IfErr, Err, refl, sym, ap, subst, ◌∙◌, arith}
+use Rattle.std.proofs.Common.{get_or, IsTrue, IfErr, Err, refl, sym, ap, subst, ◌∙◌, arith}
 use Rattle.std.proofs.lemmas.Result.{err_from_is_err_and}
 use Rattle.bk_store.specs.Opening.{FirstFails}
 use Rattle.bk_store.specs.declared.answer.OpenFault.TheVariants as open_faults
-use Rattle.bk_store.proofs.OpenedSums.{when_ok}
 use Rattle.bk_store.proofs.OpenedFinds.{none_taken, finding_closed, finding_on, finding_refused, finding_past, finding_least}
 use Rattle.bk_store.specs.SlotAssignment.{slot_state}
 use Rattle.bk_store.proofs.Seating.{none_seated, may_seat, seat_on}

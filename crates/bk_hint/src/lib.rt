@@ -1,0 +1,23 @@
+//! Hint files: the entries of a sealed entry log, so that an opening need not read the log's bytes.
+#![tactic(auto)]
+
+mod checking;
+mod contents;
+mod entries;
+mod facts;
+mod fault;
+mod head;
+mod listed;
+mod noting;
+mod reading;
+mod sums;
+mod writing;
+
+pub use contents::Contents;
+pub use entries::Entries;
+pub use facts::LogFacts;
+pub use fault::HintFault;
+pub use listed::Listed;
+pub use reading::decode;
+pub use sums::{fits_map, sums_by_ledger};
+pub use writing::encode;

@@ -1,0 +1,52 @@
+//! Sums of record sizes by ledger.
+
+ghost use Rattle.std.specs.Prelude.{◌≡◌, ℕ, ◌↔◌, IsTrue, IfOk};
+ghost use Rattle.std.specs.BTreeMap as tree;
+ghost use Rattle.std.specs.Ordering.{nat_cmp};
+ghost use Rattle.bk_hint.specs.Sums.{bytes_in, sum_of, IsMapOf};
+
+use crate::Contents;
+use std::alloc::{AllocError, Global};
+use std::collections::BTreeMap;
+
+/// Returns for each ledger the sum of the sizes of its records, as the ledgers map of the log has to
+/// have them. A ledger without a record has none.
+///
+/// # Errors
+///
+/// - `AllocError` if an allocation is refused.
+pub fn sums_by_ledger(alloc: Global, contents: &Contents) -> Result<BTreeMap<u64, u64>, AllocError>
+    ensures { IfOk result (λ sums. (ledger : ℕ) → tree.get nat_cmp sums ledger ≡ sum_of (bytes_in contents.now ledger)) }
+{
+    let mut sums = BTreeMap::new(alloc);
+    for entry in contents.iter() {
+        let of = entry.key.ledger();
+        let before = sums.get(&of).copied().unwrap_or(0);
+        let now = before + u64::from(entry.size);
+        sums.insert(of, now)?;
+    }
+    Ok(sums)
+}
+
+/// Returns whether a log's ledgers map is that of these entries: each ledger with a record has the
+/// sum of the sizes of its records, and no other ledger is in the map.
+///
+/// # Errors
+///
+/// - `AllocError` if an allocation is refused.
+pub fn fits_map(
+    alloc: Global,
+    contents: &Contents,
+    map: &BTreeMap<u64, u64>,
+) -> Result<bool, AllocError>
+    ensures { IfOk result (λ fits. IsTrue fits ↔ IsMapOf contents.now map.now) }
+{
+    let sums = sums_by_ledger(alloc, contents)?;
+    let found = sums.len();
+    let wanted = map.len();
+    if found != wanted {
+        return Ok(false);
+    }
+    let same = sums == *map;
+    Ok(same)
+}

@@ -1,0 +1,5 @@
+//! Tests of `bk_hint`.
+#![tactic(auto)]
+
+#[cfg(test)]
+mod tests;

@@ -1,0 +1,67 @@
+//! Random lists, written and read again.
+
+use super::listed;
+use super::writer::Writer;
+use bk_hint::{Contents, LogFacts, decode, encode};
+use bk_record::Key;
+use std::test::Fail;
+
+#[test]
+fn random_lists_are_read_again(rt: HostRuntime) -> Result<(), Fail> {
+    let alloc = rt.alloc();
+    for seed in 0..300 {
+        let mut writer = Writer::new(seed);
+        let (contents, entries) = writer.write(alloc, seed as usize)?;
+        assert_eq!(rt;
+            listed(alloc, &contents)?.as_slice(),
+            entries.as_slice(),
+            "{seed}"
+        );
+        assert_eq!(rt; contents.len(), entries.len() as u64);
+        let mut bytes: u64 = 0;
+        for entry in &entries {
+            bytes = bytes.wrapping_add(u64::from(entry.size));
+        }
+        assert_eq!(rt; contents.record_bytes(), bytes);
+        let facts = LogFacts {
+            log: seed as u32,
+            length: seed << 32,
+            checksum: 7,
+        };
+        let hint = encode(alloc, &contents, &facts)?;
+        assert!(rt; hint.len() <= entries.len().saturating_mul(28).saturating_add(36));
+        let (read, told) = decode(alloc, &hint)?;
+        assert_eq!(rt; told, facts);
+        assert_eq!(rt;
+            listed(alloc, &read)?.as_slice(),
+            entries.as_slice(),
+            "{seed}"
+        );
+        assert_eq!(rt; read.end(), contents.end());
+        let again = encode(alloc, &read, &told)?;
+        assert_eq!(rt; again.as_slice(), hint.as_slice(), "{seed}");
+    }
+    Ok(())
+}
+
+#[test]
+fn entries_of_one_size_take_few_bytes(rt: HostRuntime) -> Result<(), Fail> {
+    let alloc = rt.alloc();
+    let mut contents = Contents::new(alloc);
+    assert!(rt; contents.is_empty());
+    for entry in 0..10_000 {
+        let at = 1028 + 1044 * entry;
+        let key = Key::new(5, entry).ok_or("key")?;
+        assert!(rt; contents.can_push(at, 1044));
+        contents.push(key, at, 1044)?;
+    }
+    assert_eq!(rt; contents.len(), 10_000);
+    assert!(rt; !contents.is_empty());
+    let facts = LogFacts {
+        log: 1,
+        length: 2,
+        checksum: 3,
+    };
+    assert_eq!(rt; encode(alloc, &contents, &facts)?.len(), 36 + 24 + 8);
+    Ok(())
+}

@@ -1,0 +1,11 @@
+-- Packed pages: the cells of one ledger, each with the offset of an entry from the base of the page.
+use Rattle.std.specs.Prelude.{ℕ, ◌+◌, List, map}
+use Rattle.bk_record.specs.Key.{EntryKey}
+
+-- pair of a cell
+abbrev pub cell_pair : {X : Type 0} → ℕ → ℕ → ℕ × X → EntryKey × X
+cell_pair ledger base cell = (record { ledger = ledger; entry = base + cell.0 }, cell.1)
+
+-- pairs of cells, in order
+abbrev pub cell_pairs : {X : Type 0} → ℕ → ℕ → List (ℕ × X) → List (EntryKey × X)
+cell_pairs ledger base cells = map (cell_pair ledger base) cells

@@ -1,0 +1,5 @@
+//! Tests of `bk_recorded`.
+#![tactic(auto)]
+
+#[cfg(test)]
+mod tests;

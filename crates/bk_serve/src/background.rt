@@ -1,0 +1,228 @@
+//! Compaction in the background: one step of the store alone at a time.
+//!
+//! A round retires, closes and removes each log that is not used any more, and then compacts one
+//! log after another that qualifies, each time with such a pass behind it. It ends when no log
+//! qualifies or a step of a compaction failed. A change of the store begins another round.
+
+ghost use Rattle.std.specs.Prelude.{◌≡◌};
+ghost use Rattle.bk_serve.specs.Background as says;
+ghost use Rattle.bk_serve.specs.Background.{Follows};
+ghost use Rattle.bk_serve.specs.Flushes.{MayWork};
+
+use crate::tally::{Tally, step};
+use bk_disk::LogDisk;
+use bk_drive::{
+    Answer, BeginAnswer, CloseAnswer, CopyAnswer, EndAnswer, FinishAnswer, Kind, RetireAnswer,
+    SwitchAnswer, Work,
+};
+use bk_store::Store;
+
+/// Number of entries of one step.
+const STRIDE: u64 = 64;
+
+/// Which logs are compacted: those with fewer live thousandths. 0 omits a kind.
+#[derive(Clone, Copy, Debug, PartialEq, Eq)]
+pub(crate) struct Thresholds {
+    pub minor: u32,
+    pub major: u32,
+}
+
+/// A compaction in the background.
+#[derive(Clone, Copy, Debug)]
+pub(crate) struct Background {
+    /// None: there is none.
+    thresholds: Option<Thresholds>,
+    /// The next step of the round. None: no round is running.
+    next: Option<Work>,
+    /// Whether the store has changed since the round began.
+    is_stirred: bool,
+    /// Number of failed steps.
+    faults: u64,
+}
+
+impl Background {
+    /// Returns the compaction with these thresholds. Its first round is due.
+    pub fn new(thresholds: Option<Thresholds>) -> Background {
+        Background {
+            thresholds,
+            next: None,
+            is_stirred: thresholds.is_some(),
+            faults: 0,
+        }
+    }
+
+    /// Returns whether there is one.
+    pub fn is_on(&self) -> bool {
+        self.thresholds.is_some()
+    }
+
+    /// Has another round begin when the running one has ended.
+    pub fn stir(&mut self) {
+        self.is_stirred = self.is_on();
+    }
+
+    /// Returns whether a step is due.
+    pub fn is_due(&self) -> bool {
+        self.next.is_some() || self.is_stirred
+    }
+
+    /// Returns whether a log is being compacted.
+    pub fn has_job(&self) -> bool {
+        matches!(
+            self.next,
+            Some(Work::Copy(_) | Work::EndCopy | Work::Switch(_) | Work::Finish | Work::GiveUp)
+        )
+    }
+
+    /// Returns the number of failed steps.
+    pub fn faults(&self) -> u64 {
+        self.faults
+    }
+
+    /// Performs the next step, or begins a round if one is due.
+    pub fn work<D: LogDisk>(&mut self, store: &mut Store<D>)
+        ensures { MayWork store.old store.new }
+    {
+        let mut tally = Tally::NONE;
+        let Some(work) = self.next else {
+            if self.is_stirred {
+                self.is_stirred = false;
+                self.next = from_log(store, 0, None);
+            }
+            return;
+        };
+        let answer = step(store, &mut tally, work);
+        if is_failed(&answer) {
+            self.faults = self.faults.saturating_add(1);
+        }
+        self.next = self.after(store, work, &answer);
+    }
+
+    /// Returns the step after a step with this answer.
+    fn after<D: LogDisk>(&self, store: &Store<D>, work: Work, answer: &Answer) -> Option<Work>
+        ensures { Follows answer.now result }
+    {
+        match work {
+            Work::Retire(log) if is_retired(answer) => Some(Work::Close(log)),
+            Work::Close(log) if is_closed(answer) => Some(Work::Remove(log)),
+            Work::Retire(log) | Work::Close(log) | Work::Remove(log) => {
+                from_log(store, log.saturating_add(1), self.first_kind())
+            }
+            Work::Begin(_) if is_chosen(answer) => Some(Work::Copy(STRIDE)),
+            Work::Begin(Kind::Minor) => self.last_kind(),
+            Work::Copy(_) if is_copied(answer) => Some(Work::Copy(STRIDE)),
+            Work::Copy(_) if is_examined(answer) => Some(Work::EndCopy),
+            Work::EndCopy if is_ended(answer) => Some(Work::Switch(STRIDE)),
+            Work::Switch(_) if is_switched(answer) => Some(Work::Finish),
+            Work::Switch(_) if is_moved(answer) => Some(Work::Switch(STRIDE)),
+            Work::Finish if is_finished(answer) => from_log(store, 0, None),
+            Work::Copy(_) | Work::EndCopy | Work::Switch(_) | Work::Finish => Some(Work::GiveUp),
+            _ => None,
+        }
+    }
+
+    /// Returns the step that begins with the first kind.
+    fn first_kind(&self) -> Option<Kind> {
+        match self.thresholds {
+            Some(Thresholds { minor, .. }) if minor > 0 => Some(Kind::Minor),
+            Some(Thresholds { major, .. }) if major > 0 => Some(Kind::Major),
+            _ => None,
+        }
+    }
+
+    /// Returns the step that begins a major compaction, after no log qualifies for a minor one.
+    fn last_kind(&self) -> Option<Work>
+        ensures { (answer : Answer) → Follows answer result }
+    {
+        match self.thresholds {
+            Some(Thresholds { major, .. }) if major > 0 => Some(Work::Begin(Kind::Major)),
+            _ => None,
+        }
+    }
+}
+
+/// Returns the step that retires the first log from an id on. If there is none, that which begins a
+/// compaction of this kind.
+fn from_log<D: LogDisk>(store: &Store<D>, from: u32, kind: Option<Kind>) -> Option<Work>
+    ensures { (answer : Answer) → Follows answer result }
+{
+    match (store.log_from(from), kind) {
+        (Some(log), _) => Some(Work::Retire(log)),
+        (None, Some(kind)) => Some(Work::Begin(kind)),
+        (None, None) => None,
+    }
+}
+
+/// Returns whether a log is retired.
+fn is_retired(answer: &Answer) -> bool
+    ensures { result ≡ says.is_retired answer.now }
+{
+    matches!(answer, Answer::Retire(RetireAnswer::Retired(_)))
+}
+
+/// Returns whether a log is closed.
+fn is_closed(answer: &Answer) -> bool
+    ensures { result ≡ says.is_closed answer.now }
+{
+    matches!(answer, Answer::Close(CloseAnswer::Closed))
+}
+
+/// Returns whether a log was chosen.
+fn is_chosen(answer: &Answer) -> bool
+    ensures { result ≡ says.is_chosen answer.now }
+{
+    matches!(answer, Answer::Begin(Ok(BeginAnswer::Chosen(_))))
+}
+
+/// Returns whether entries were examined.
+fn is_copied(answer: &Answer) -> bool
+    ensures { result ≡ says.is_copied answer.now }
+{
+    matches!(answer, Answer::Copy(Ok(CopyAnswer::Copied(_))))
+}
+
+/// Returns whether all entries had been examined.
+fn is_examined(answer: &Answer) -> bool
+    ensures { result ≡ says.is_examined answer.now }
+{
+    matches!(answer, Answer::Copy(Ok(CopyAnswer::AtEnd)))
+}
+
+/// Returns whether the target log was sealed.
+fn is_ended(answer: &Answer) -> bool
+    ensures { result ≡ says.is_ended answer.now }
+{
+    matches!(answer, Answer::EndCopy(Ok(EndAnswer::Ended(_))))
+}
+
+/// Returns whether index entries were switched.
+fn is_moved(answer: &Answer) -> bool
+    ensures { result ≡ says.is_moved answer.now }
+{
+    matches!(answer, Answer::Switch(SwitchAnswer::Moved(_, _)))
+}
+
+/// Returns whether all index entries are switched.
+fn is_switched(answer: &Answer) -> bool
+    ensures { result ≡ says.is_switched answer.now }
+{
+    matches!(answer, Answer::Switch(SwitchAnswer::Moved(_, 0)))
+}
+
+/// Returns whether the source log was retired.
+fn is_finished(answer: &Answer) -> bool
+    ensures { result ≡ says.is_finished answer.now }
+{
+    matches!(answer, Answer::Finish(FinishAnswer::Retired(_)))
+}
+
+/// Returns whether a step failed.
+fn is_failed(answer: &Answer) -> bool
+    ensures { result ≡ says.is_failed answer.now }
+{
+    match answer {
+        Answer::Remove(Err(_)) | Answer::Begin(Err(_)) => true,
+        Answer::Copy(Err(_)) | Answer::EndCopy(Err(_)) => true,
+        _ => false,
+    }
+}

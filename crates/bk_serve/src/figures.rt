@@ -1,0 +1,27 @@
+//! The figures of the store.
+
+ghost use Rattle.bk_serve_core.specs.Replies.{told};
+ghost use Rattle.bk_serve.specs.Figures.{FiguresAnswers};
+
+use bk_disk::LogDisk;
+use bk_serve_core::{Done, Reply};
+use bk_store::Store;
+
+/// Returns the reply with the figures of the store. Visits each log once.
+pub(crate) fn figures<D: LogDisk>(store: &Store<D>) -> Reply<'static>
+    ensures { FiguresAnswers store.now (told result) }
+{
+    let stats = store.stats();
+    let bytes = store.bytes();
+    let cached = stats.cached.saturating_add(stats.flushing);
+    Reply::Done(Done::Figures {
+        logs: stats.logs as u64,
+        bytes: bytes.total,
+        live: bytes.live,
+        cached,
+        indexed: stats.indexed as u64,
+        durable: stats.durable,
+        next_log: u64::from(stats.next),
+        front: stats.front,
+    })
+}
