@@ -63,19 +63,30 @@ def build_below(top, names):
     return not any(subprocess.run(["rt", "lib"], cwd=top / "crates" / it, stdin=subprocess.DEVNULL).returncode for it in lacking)
 
 
-def note_built(top):
-    """Notes of each library that rt ci has left under a directory that it is made of the files there, so that rt check uses
-    it. Without the note, which rt ci does not leave, rt check proves the library again."""
+def stamps(top):
+    """Returns, of each crate with a built library, the file that notes of which files it is built, and the note that stands
+    for the present ones. Returns nothing if the toolchain has no such note."""
     kit = Path(os.path.realpath(shutil.which("rt"))).parent
     if not (kit / "rtlib.py").is_file():
-        return
+        return {}
     sys.path.insert(0, str(kit))
     import rtlib
 
-    for crate in tried.libraries(top):
-        folder = top / "crates" / crate
-        if (folder / "out" / "rlib" / f"{crate}.rlib").is_dir():
-            (folder / "out" / "rlib" / "stamp").write_text(rtlib.Crate(str(folder), str(top), {}).stamp())
+    folders = {it: top / "crates" / it for it in tried.libraries(top)}
+    built = [it for it, folder in folders.items() if (folder / "out" / "rlib" / f"{it}.rlib").is_dir()]
+    return {it: (folders[it] / "out" / "rlib" / "stamp", rtlib.Crate(str(folders[it]), str(top), {}).stamp()) for it in built}
+
+
+def note_built(top):
+    """Notes of each library that rt ci has left under a directory that it is made of the files there, so that rt check uses
+    it. Without the note, which rt ci does not leave, rt check proves the library again."""
+    for file, stamp in stamps(top).values():
+        file.write_text(stamp)
+
+
+def built(top):
+    """Returns the crates whose library is built of their present files, and so proved."""
+    return [it for it, (file, stamp) in stamps(top).items() if file.is_file() and file.read_text() == stamp]
 
 
 def link(source, to):

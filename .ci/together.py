@@ -1,8 +1,9 @@
 """Tries the must-fail edits of a crate, those of different functions in one check.
 
 A function is proved from its own body and the contracts of what it calls. So edits of different functions do not disturb
-each other: each is refused if the prover refuses the function that it changes. An edit for which such a check does not
-show that is tried alone; so is one that changes a definition or a contract.
+each other: each is refused if the prover refuses the function that it changes, and only these functions and those that they
+call are checked. An edit for which such a check does not show that is tried alone, on the whole crate; so is one that
+changes a definition or a contract.
 """
 
 import re
@@ -25,13 +26,17 @@ UNPROVED = re.compile(r"fn (\S+): not proved$")
 OPEN = re.compile(r"note: src/(\S+)\.rt:\d+:\d+: it is not proved (.*)")
 # An error of an edited text: it could not be read, or a rule of the language other than a contract refuses it.
 UNREAD = re.compile(r"(?:\./)?(?:src|specs)/\S+:\d+:\d+: error: ")
+# What the prover says if it does not know which function is meant.
+UNKNOWN = re.compile(r"^rattle: error: .*(?:has no function|several functions are named)", re.M)
+# The trait of an impl.
+TRAIT = re.compile(r"\s*impl\b.*?(\w+)(?:<[^{]*>)? for ")
 
 
 class Edit:
     """An edit of a crate: what it replaces in which file, and the functions that it changes, None if it changes more."""
 
     def __init__(self, folder, name):
-        self.name, self.pairs, path, old = name, [], "", None
+        self.name, self.pairs, self.paths, path, old = name, [], set(), "", None
         for line in (folder / "must-fail" / name).read_text().split("\n"):
             if line.startswith("file: "):
                 path = line[len("file: ") :].strip()
@@ -53,9 +58,12 @@ class Edit:
             found = FUNCTION.match(lines[start])
             if found:
                 end = lines.index(found[1] + "}", start) if found[1] + "}" in lines[start:] else start
-                impls = (tried.IMPL.match(it) for it in reversed(lines[:start]) if found[1] and it.startswith("impl"))
-                kind = next((it[1] for it in impls if it), None)
+                impls = (it for it in reversed(lines[:start]) if found[1] and it.startswith("impl") and tried.IMPL.match(it))
+                impl = next(impls, "")
+                kind, trait = (it and it[1] for it in (tried.IMPL.match(impl), TRAIT.match(impl)))
                 module = path.removeprefix("src/").removesuffix(".rt").replace("/", "::")
+                around = f"{kind}{trait or ''}" if kind else folder.name if module in ("lib", "main") else module
+                self.paths.add(f"{around}::{found[2]}")
                 return (module, kind, found[2]) if start <= at <= end else None
         return None
 
@@ -135,13 +143,15 @@ class Crate:
         self.name, self.folder, self.copy = name, top / "crates" / name, runs.copy_of(top, name, Path(room))
         self.left = [Edit(self.folder, it) for it in sorted(tried.edits_of(top, name))]
 
-    def check(self):
-        return runs.rt(self.copy, "check", "--jobs", "1")
+    def check(self, paths=()):
+        """Checks the crate, or these functions of it and those that they call."""
+        status, said = runs.rt(self.copy, "check", "--jobs", "1", *(word for it in sorted(paths) for word in ("--only", it)))
+        return self.check() if paths and UNKNOWN.search(said) else (status, said)
 
     def together(self, tell):
         """Tries one group of edits. Returns whether that showed something of one of them."""
         fitting = apply(groups(self.left), self.folder, self.copy)
-        status, said = self.check()
+        status, said = self.check({path for it in fitting for path in it.paths})
         found = refusals(self.name, said) if status == 1 and not any(map(UNREAD.match, said.splitlines())) else {}
         shown = {}
         for edit in fitting:
@@ -169,17 +179,22 @@ class Crate:
             pass
         for it in self.left:
             self.alone(it, tell)
-        # What was refused says something only if the crate itself is proved over what these checks kept.
+
+    def is_proved(self):
+        """Checks the crate without its edits: what was refused says something only if it is proved."""
         apply([], self.folder, self.copy)
         return self.check()[0] == 0
 
 
-def try_edits(top, name, tell):
+def try_edits(top, name, tell, is_proved):
     """Tries all edits of a crate, and tells of each. Returns whether the crate without them is proved."""
     with tempfile.TemporaryDirectory(prefix="edits-") as room:
-        return Crate(top, name, room).all(tell)
+        crate = Crate(top, name, room)
+        crate.all(tell)
+        return is_proved or crate.is_proved()
 
 
-def try_all(top, names, tell):
-    """Tries the edits of these crates, and tells of each. Returns the crates that are not proved without them."""
-    return runs.in_lanes(names, lambda it: try_edits(top, it, tell))
+def try_all(top, names, tell, proved=()):
+    """Tries the edits of these crates, and tells of each. Returns the crates that are not proved without them; those of
+    `proved` are known to be."""
+    return runs.in_lanes(names, lambda it: try_edits(top, it, tell, it in proved))
