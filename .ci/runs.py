@@ -46,11 +46,15 @@ def end():
             pass
 
 
+def lanes(room):
+    """Returns how many runs that take so much memory each can go on side by side."""
+    free = re.search(r"^MemAvailable:\s+(\d+)", Path("/proc/meminfo").read_text(), re.M)
+    return max(1, min(len(os.sched_getaffinity(0)), 1024 * int(free[1]) // room))
+
+
 def in_lanes(names, call):
     """Calls for each name, side by side as processors and memory allow. Returns the names for which the call gave False."""
-    free = re.search(r"^MemAvailable:\s+(\d+)", Path("/proc/meminfo").read_text(), re.M)
-    lanes = max(1, min(len(os.sched_getaffinity(0)), 1024 * int(free[1]) // ROOM))
-    with ThreadPoolExecutor(lanes) as pool:
+    with ThreadPoolExecutor(lanes(ROOM)) as pool:
         given = list(pool.map(call, names))
     return [it for it, is_well in zip(names, given) if not is_well]
 
