@@ -29,7 +29,8 @@ OPTIONS = (
     "transparent_hugepage=never cryptomgr.notests audit=0 apparmor=0 selinux=0"
 )
 # One processor, on which code runs as if there were more: else a request of a disk was lost, perhaps for want of barriers.
-PROCESSORS = ("-smp", "1,maxcpus=2")
+# It has what a built program needs (x86-64-v2), as QEMU's default has not.
+PROCESSORS = ("-cpu", "Nehalem", "-smp", "1,maxcpus=2")
 # Its memory, and the most that QEMU keeps of translated code, both in MiB.
 MEMORY = ("-m", "256", "-accel", "tcg,tb-size=64")
 # How long the guest may be silent, on a machine that is busy.
