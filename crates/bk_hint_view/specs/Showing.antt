@@ -1,0 +1,16 @@
+-- A view with a table.
+use Rattle.std.specs.Prelude.{ℕ, ◌⊎◌, Bool, List, Option, Some, None}
+use Rattle.bk_hint_view.specs.declared.row.Row.{Row}
+use Rattle.bk_hint_view.specs.Rows.{HasRow, HasNoRow}
+
+-- the bytes of the inner view, whether it is honest and sound, and the rows of the table
+pub record HintedBytes : Type 0 where
+  pub bytes : List ℕ
+  pub honest : Bool
+  pub sound : Bool
+  pub table : Option (List Row)
+
+-- what is lent at a position: the head of its row, if it has one
+abbrev pub Lends : Option (List Row) → ℕ → List ℕ → Type 0
+Lends None at lent = Unit {0}
+Lends (Some rows) at lent = HasRow rows at lent ⊎ HasNoRow rows at
