@@ -1,5 +1,5 @@
 -- The rows of a table: heads of records, with their positions. Read `IsTrueTable` first.
-use Rattle.std.specs.Prelude.{◌≡◌, ◌≢◌, ℕ, ◌-◌, List, ◌++◌, map, drop, Some, slice_get}
+use Rattle.std.specs.Prelude.{◌≡◌, ◌≢◌, ℕ, ◌-◌, ◌==◌, ◌&&◌, Bool, true, false, List, [], ◌∷◌, ◌++◌, map, drop, Some, slice_get}
 use Rattle.std.specs.Int.{w32, w64, to_be_bytes}
 use Rattle.std.specs.List.{All}
 use Rattle.std.specs.List.Sorted.{IsNonDecreasingBy}
@@ -10,6 +10,17 @@ use Rattle.bk_hint_view.specs.declared.row.Row.{Row}
 -- The table is true of the bytes of a log: at the position of each row, they go on with its head.
 abbrev pub IsTrueTable : List Row → List ℕ → Type 0
 IsTrueTable rows bytes = All (λ row. HasPrefix (drop row.at bytes) row.head) rows
+
+-- `front` is a prefix of the bytes
+abbrev pub is_front : List ℕ → List ℕ → Bool
+is_front [] bytes = true
+is_front (b ∷ front) [] = false
+is_front (b ∷ front) (c ∷ bytes) = (b == c) && is_front front bytes
+
+-- `IsTrueTable`, as a test
+abbrev pub is_true_table : List Row → List ℕ → Bool
+is_true_table [] bytes = true
+is_true_table (row ∷ rows) bytes = is_front row.head (drop row.at bytes) && is_true_table rows bytes
 
 -- first 20 bytes of an entry's record: length of the payload in four bytes, ledger id and entry id in
 -- eight bytes each, big-endian

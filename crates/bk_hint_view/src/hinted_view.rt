@@ -1,9 +1,8 @@
 //! A view that has heads of records in memory.
 
-ghost use Rattle.std.specs.Prelude.{◌≡◌, IsTrue, IfSome, drop};
+ghost use Rattle.std.specs.Prelude.{◌≡◌, ◌&&◌, IsTrue, drop};
 ghost use Rattle.bk_disk.specs.Blocks.{HasPrefix};
-ghost use Rattle.bk_hint_view.specs.Rows.{IsTrueTable};
-ghost use Rattle.bk_hint_view.specs.Showing.{Lends};
+ghost use Rattle.bk_hint_view.specs.Showing.{has_true_table, Lends};
 
 use crate::Table;
 use bk_disk::{DiskFault, LogView};
@@ -11,10 +10,10 @@ use std::alloc::Global;
 use std::marker::Model;
 
 /// A view of a log, and a table of heads of its records. It has the bytes of the inner view, and is
-/// honest and sound if that is. It lends the heads of the table, so a scan of the log reads no
-/// record that has a row.
+/// sound if that is. It lends the heads of the table, so a scan of the log reads no record that has a
+/// row.
 ///
-/// The table is trusted: it must be true of the log (`IsTrueTable`).
+/// It is honest if the inner view is and the table is true of the log: the table is trusted.
 #[derive(Drop)]
 pub struct HintedView<V: LogView> {
     inner: V,
@@ -22,36 +21,34 @@ pub struct HintedView<V: LogView> {
 }
 
 impl<V: LogView> Model for HintedView<V> {
-    ghost use Rattle.std.specs.Prelude.{IsTrue, IfSome};
-    ghost use Rattle.bk_hint_view.specs.Rows.{IsTrueTable};
     ghost use Rattle.bk_hint_view.specs.Showing.{HintedBytes};
 
     ghost Value = { HintedBytes };
 
     ghost view = { λ view. record {
       bytes = V.bytes view.inner;
-      honest = V.honest view.inner;
+      inner = V.honest view.inner;
       sound = V.sound view.inner;
       table = view.table;
     } };
-
-    ghost invariant = { λ view. IsTrue (V.honest view.inner) → IfSome view.table (λ rows. IsTrueTable rows (V.bytes view.inner)) };
 }
 
 impl<V: LogView> HintedView<V> {
-    /// Returns the view with a table, or without one. The table is true of an honest view.
+    /// Returns the view with a table, or without one.
     pub fn new(inner: V, table: Option<Table>) -> HintedView<V>
-        requires { IsTrue (V.honest inner) → IfSome table (λ rows. IsTrueTable rows (V.bytes inner)) }
-        ensures { result ≡ record { bytes = V.bytes inner; honest = V.honest inner; sound = V.sound inner; table = table } }
+        ensures { result ≡ record { bytes = V.bytes inner; inner = V.honest inner; sound = V.sound inner; table = table } }
     {
         HintedView { inner, table }
     }
 }
 
 impl<V: LogView> LogView for HintedView<V> {
+    ghost use Rattle.std.specs.Prelude.{◌&&◌};
+    ghost use Rattle.bk_hint_view.specs.Showing.{has_true_table};
+
     ghost bytes = { λ view. view.bytes };
 
-    ghost honest = { λ view. view.honest };
+    ghost honest = { λ view. view.inner && has_true_table view.table view.bytes };
 
     ghost sound = { λ view. view.sound };
 
@@ -70,7 +67,7 @@ impl<V: LogView> LogView for HintedView<V> {
     /// Returns the head of the record at this position if the table has its row, else what the inner
     /// view lends.
     fn lend(&self, at: u64) -> &[u8]
-        ensures bytes { IsTrue self.now.honest → HasPrefix (drop at self.now.bytes) result.now }
+        ensures bytes { IsTrue (self.now.inner && has_true_table self.now.table self.now.bytes) → HasPrefix (drop at self.now.bytes) result.now }
         ensures row { Lends self.now.table at result.now }
     {
         match &self.table {
