@@ -84,8 +84,9 @@ fn contents_of<V: LogView>(alloc: Global, view: &V, end: u64) -> Result<Option<C
         if !contents.can_push(found.at, found.size) {
             return Ok(None);
         }
-        if contents.push(found.key, found.at, found.size).is_err() {
-            return Err(MakeFault::Memory);
+        match contents.push(found.key, found.at, found.size) {
+            Ok(()) => {}
+            Err(_) => return Err(MakeFault::Memory),
         }
     }
 }
