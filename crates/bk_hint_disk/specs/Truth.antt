@@ -1,12 +1,13 @@
 -- True hints. Read `IsTrueHint` and `AreTrue` first.
-use Rattle.std.specs.Prelude.{◌≡◌, ℕ, Bool, IsTrue, List, Some}
+use Rattle.std.specs.Prelude.{◌≡◌, ℕ, List, Option, Some, None, Result, Ok, Err, Vec}
+use Rattle.std.specs.Global.{Global}
 use Rattle.std.specs.FinMap as map
 use Rattle.bk_record.specs.Files.{Files}
-use Rattle.bk_disk.specs.Disk.{view_end}
 use Rattle.bk_hint.specs.declared.facts.LogFacts.{LogFacts}
 use Rattle.bk_hint.specs.declared.listed.Listed.{Listed}
 use Rattle.bk_hint.specs.Hint.{IsHint}
 use Rattle.bk_hint_view.specs.Rows.{AreRecords}
+use Rattle.bk_hint_disk.specs.declared.fault.HintStoreFault.{HintStoreFault}
 
 -- The entries that the hint lists, if it is one, are records of the file.
 abbrev pub IsTrueHint : List ℕ → List ℕ → Type 0
@@ -16,9 +17,14 @@ IsTrueHint file hint = (facts : LogFacts) (entries : List Listed) → IsHint hin
 abbrev pub AreTrue : Files → Files → Type 0
 AreTrue hints files = (log : ℕ) (hint file : List ℕ) → map.get hints log ≡ Some hint → map.get files log ≡ Some file → IsTrueHint file hint
 
--- The bytes are a hint of these entries, of a log of this id and, on an honest view, this length.
-pub record IsHintOf (hint : List ℕ) (log : ℕ) (honest : Bool) (file : List ℕ) (entries : List Listed) : Type 0 where
+-- the bytes are a hint of these entries, of a log of this id
+pub record IsHintOf (hint : List ℕ) (log : ℕ) (entries : List Listed) : Type 0 where
   pub facts : LogFacts
   pub is : IsHint hint facts entries
   pub of_log : facts.log ≡ log
-  pub of_length : IsTrue honest → facts.length ≡ view_end file
+
+-- the store returned a hint of these entries
+abbrev pub HasHint : Result (Option (Vec ℕ Global)) HintStoreFault → ℕ → List Listed → Type 0
+HasHint (Ok (Some hint)) log entries = IsHintOf hint.items log entries
+HasHint (Ok None) log entries = ⊥
+HasHint (Err fault) log entries = ⊥

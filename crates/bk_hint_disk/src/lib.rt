@@ -3,16 +3,21 @@
 #![tactic(auto)]
 
 mod checking;
+mod dir_hints;
 mod fault;
+mod hinted_disk;
 mod hints;
 mod making;
 mod mem_hints;
 mod sealed;
+mod uses;
 mod why_not;
 
 pub use checking::check_hint;
+pub use dir_hints::DirHints;
 pub use fault::{HintStoreFault, MakeFault};
+pub use hinted_disk::HintedDisk;
 pub use hints::Hints;
 pub use making::make_hint;
 pub use mem_hints::MemHints;
-pub use why_not::WhyNot;
+pub use why_not::{Unused, WhyNot};

@@ -34,3 +34,11 @@ pub enum WhyNot {
     #[error("disk")]
     Disk,
 }
+
+/// A hint that is there and not used.
+#[derive(Clone, Copy, Debug, PartialEq, Eq)]
+pub struct Unused {
+    /// The log whose hint it is.
+    pub log: u32,
+    pub why: WhyNot,
+}

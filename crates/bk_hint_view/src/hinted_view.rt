@@ -16,8 +16,8 @@ use std::marker::Model;
 /// It is honest if the inner view is and the table is true of the log: the table is trusted.
 #[derive(Drop)]
 pub struct HintedView<V: LogView> {
-    inner: V,
-    table: Option<Table>,
+    pub inner: V,
+    pub table: Option<Table>,
 }
 
 impl<V: LogView> Model for HintedView<V> {
