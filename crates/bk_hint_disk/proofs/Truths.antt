@@ -76,7 +76,7 @@ grew_insert : (old : Files) (log : ℕ) (file now : List ℕ) → map.get old lo
 grew_insert old log file now there longer = record {
   each = λ q w is. elim (get-insert_cases nat_cmp_total nat_cmp-IsAntisymmetric old log now q w is) [
     | inl here ↦ (file, ap (map.get old) here.0 ∙ there, subst (IsLonger file) here.1 longer)
-    | inr else ↦ (w, else.1, longer_same w)
+    | inr apart ↦ (w, apart.1, longer_same w)
   ];
 }
 
