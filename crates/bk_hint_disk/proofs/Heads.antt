@@ -78,5 +78,5 @@ record_head file payload at size key each stands sized =
     ∙ append_assoc (four ++ (a ++ b)) rest begins.behind in (
       rest ++ begins.behind,
       begins.is ∙ spelled ∙ ap (λ (l : List ℕ). l ++ (rest ++ begins.behind))
-      (ap (λ (n : ℕ). to_be_bytes w32 n ++ (a ++ b)) less ∙ sym (head_is key at size)),
+          (ap (λ (n : ℕ). to_be_bytes w32 n ++ (a ++ b)) less ∙ sym (head_is key at size)),
     )

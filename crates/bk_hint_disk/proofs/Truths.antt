@@ -37,7 +37,7 @@ front_longer file now head p longer headed some front =
     let within : k ≤ length rest = omega (arith, long, length-drop p file, length-drop 1024 file) in (
       front.0 ++ longer.behind,
       sym (here now) ∙ ap (drop k) longer.is ∙ drop-append-le k rest longer.behind within
-      ∙ ap (λ (l : List ℕ). l ++ longer.behind) (here file ∙ front.1) ∙ append_assoc head front.0 longer.behind,
+          ∙ ap (λ (l : List ℕ). l ++ longer.behind) (here file ∙ front.1) ∙ append_assoc head front.0 longer.behind,
     )
 
 head_long : (entry : Listed) → length (head_of entry) ≡ 20

@@ -25,8 +25,8 @@ true_put : (hints files : Files) (log : ℕ) (hint file : List ℕ) → AreTrue 
 true_put hints files log hint file holds is fact q other now has there =
     elim (get-insert_cases nat_cmp_total nat_cmp-IsAntisymmetric hints log hint q other has) [
       | inl here ↦
-        let same : file ≡ now = same_Some file now (sym is ∙ ap (map.get files) (sym here.0) ∙ there) in
-        subst (λ (h : List ℕ). IsTrueHint now h) here.1 (subst (λ (f : List ℕ). IsTrueHint f hint) same fact)
+          let same : file ≡ now = same_Some file now (sym is ∙ ap (map.get files) (sym here.0) ∙ there) in
+          subst (λ (h : List ℕ). IsTrueHint now h) here.1 (subst (λ (f : List ℕ). IsTrueHint f hint) same fact)
       | inr apart ↦ holds q other now apart.1 there
     ]
 

@@ -3,7 +3,7 @@
 mod damaged;
 mod failing;
 mod folder;
-mod loose;
 mod logs;
+mod loose;
 mod meter;
 mod opened;

@@ -80,7 +80,10 @@ fn a_cut_hint_is_noticed(rt: HostRuntime) -> Result<(), Fail> {
 fn a_hint_of_another_log_is_refused(rt: HostRuntime) -> Result<(), Fail> {
     let alloc = rt.alloc();
     let hint = first_hint(alloc).expect(&rt, "a hint");
-    assert_eq!(rt; opened(alloc, 2, &hint), Some((4 * ENTRIES, Some(WhyNot::OtherLog(1)))));
+    assert_eq!(rt;
+        opened(alloc, 2, &hint),
+        Some((4 * ENTRIES, Some(WhyNot::OtherLog(1))))
+    );
     assert_eq!(rt; opened(alloc, 7, &hint), Some((4 * ENTRIES, None)));
     Ok(())
 }
@@ -111,6 +114,9 @@ fn a_log_without_a_map_has_no_hint(rt: HostRuntime) -> Result<(), Fail> {
     assert!(rt; make(alloc, &mut disk).is_some());
     assert_eq!(rt; hint_of(alloc, &mut disk, 5), None);
     let short = opened(alloc, 1, b"").expect(&rt, "a store");
-    assert_eq!(rt; short, (4 * ENTRIES, Some(WhyNot::Damaged(HintFault::Short(0)))));
+    assert_eq!(rt;
+        short,
+        (4 * ENTRIES, Some(WhyNot::Damaged(HintFault::Short(0))))
+    );
     Ok(())
 }

@@ -26,7 +26,11 @@ fn each_call_may_fail(rt: HostRuntime) -> Result<(), Fail> {
     let alloc = rt.alloc();
     for call in 0..14 {
         for fault in [HintStoreFault::Disk, HintStoreFault::Memory] {
-            assert_eq!(rt; opened(alloc, call, fault), Some(4 * ENTRIES), "call {call}");
+            assert_eq!(rt;
+                opened(alloc, call, fault),
+                Some(4 * ENTRIES),
+                "call {call}"
+            );
         }
     }
     Ok(())
@@ -55,7 +59,10 @@ fn the_first_view_after_a_list_has_the_table(rt: HostRuntime) -> Result<(), Fail
     assert!(rt; disk.view(alloc, 1).expect(&rt, "a view").table.is_none());
     assert!(rt; disk.list(alloc).is_ok());
     let view = disk.view(alloc, 1).expect(&rt, "a view");
-    assert_eq!(rt; view.table.as_ref().map(|table| table.len()), Some(ENTRIES as usize));
+    assert_eq!(rt;
+        view.table.as_ref().map(|table| table.len()),
+        Some(ENTRIES as usize)
+    );
     assert!(rt; disk.view(alloc, 1).expect(&rt, "a view").table.is_none());
     assert!(rt; disk.view(alloc, 5).expect(&rt, "a view").table.is_none());
     Ok(())

@@ -52,7 +52,10 @@ fn a_directory_is_opened_by_its_hints(rt: HostRuntime) -> Result<(), Fail> {
 fn faults_of_the_directory(rt: HostRuntime) -> Result<(), Fail> {
     let alloc = rt.alloc();
     let mut hints = DirHints::new(&rt, "bk_hint_disk_none")?;
-    assert_eq!(rt; hints.get(alloc, 1).is_ok_and(|found| found.is_none()), true);
+    assert_eq!(rt;
+        hints.get(alloc, 1).is_ok_and(|found| found.is_none()),
+        true
+    );
     assert_eq!(rt; hints.put(alloc, 1, b"hint"), Err(HintStoreFault::Disk));
     assert_eq!(rt; hints.drop_hint(alloc, 1), Ok(()));
     Ok(())

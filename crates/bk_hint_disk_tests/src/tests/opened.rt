@@ -48,10 +48,7 @@ fn an_opening_reads_few_bytes(rt: HostRuntime) -> Result<(), Fail> {
 }
 
 /// Writes the hints of logs 1 to 3. Returns how many were written.
-fn hint_three(
-    alloc: Global,
-    disk: &mut HintedDisk<MeterDisk<MemDisk>, MemHints>,
-) -> Option<u32> {
+fn hint_three(alloc: Global, disk: &mut HintedDisk<MeterDisk<MemDisk>, MemHints>) -> Option<u32> {
     let mut written = 0;
     for log in [1, 2, 3] {
         if disk.write_hint(alloc, log).ok()? {
