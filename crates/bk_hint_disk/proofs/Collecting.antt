@@ -1,8 +1,7 @@
 -- The entries that a scan has found so far.
-use Rattle.std.proofs.Common.{◌≡◌, ◌∙◌, ℕ, ◌-◌, ◌<◌, ◌^◌, Bool, IsTrue, List, [], ◌∷◌, ◌++◌, length, drop, Some, Ok, sym, ap, subst, arith}
+use Rattle.std.proofs.Common.{◌≡◌, ◌∙◌, ℕ, ◌-◌, ◌<◌, ◌^◌, Bool, IsTrue, List, [], ◌∷◌, ◌++◌, length, drop, sym, ap, subst, arith}
 use Rattle.std.specs.List.{All}
 use Rattle.std.proofs.lemmas.List.Elements.{All-push}
-use Rattle.bk_record.specs.Key.{EntryKey}
 use Rattle.bk_record.proofs.Records.{each_byte}
 use Rattle.bk_disk.specs.Blocks.{HasPrefix}
 use Rattle.bk_log.specs.declared.found.Found.{Found}

@@ -1,16 +1,15 @@
 -- An entry of a log, as a scan finds it, is a record whose first 20 bytes are the head that a hint lists.
-use Rattle.std.proofs.Common.{◌≡◌, ◌∙◌, ℕ, ◌+◌, ◌-◌, ◌<◌, ◌≤◌, ◌^◌, ◌&&◌, nat_lt, cond, true, false, List, [], ◌++◌, length, take, drop, Some, None, refl, sym, ap, subst, arith, append_assoc}
+use Rattle.std.proofs.Common.{◌≡◌, ◌∙◌, ℕ, ◌+◌, ◌-◌, ◌≤◌, ◌^◌, ◌&&◌, nat_lt, cond, true, false, List, ◌++◌, length, take, drop, Some, None, refl, sym, ap, subst, arith, append_assoc}
 use Rattle.std.specs.Int.{w32, w64, to_be_bytes, from_be_bytes}
 use Rattle.std.proofs.Math.Seq.{take-append_seam, drop-append_seam}
-use Rattle.std.proofs.lemmas.List.{length-append, length-take, length-drop, take-append-drop, drop-drop}
+use Rattle.std.proofs.lemmas.List.{length-take, length-drop, take-append-drop, drop-drop}
 use Rattle.std.proofs.lemmas.Nat.{be_bytes_8}
 use Rattle.bk_record.specs.Key.{EntryKey}
-use Rattle.bk_record.specs.Record.{record_of, key_of, ledger_field, entry_field, IsPayload}
+use Rattle.bk_record.specs.Record.{record_of, key_of, ledger_field, entry_field}
 use Rattle.bk_record.specs.Spelling.{IsBytes}
 use Rattle.bk_record.proofs.Records.{bytes_take, bytes_drop}
 use Rattle.bk_disk.specs.Blocks.{HasPrefix}
 use Rattle.bk_log.specs.Places.{HasEntryAt}
-use Rattle.bk_hint.specs.declared.listed.Listed.{Listed}
 use Rattle.bk_hint_view.specs.Rows.{head_of}
 
 -- the fields of a payload that has a key

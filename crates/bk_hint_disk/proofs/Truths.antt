@@ -1,5 +1,5 @@
 -- Hints stay true while logs grow and hints go.
-use Rattle.std.proofs.Common.{◌≡◌, ◌≢◌, ◌⊎◌, ◌∙◌, inl, inr, ℕ, zero, suc, ◌+◌, ◌-◌, ◌<◌, ◌≤◌, List, [], ◌∷◌, ◌++◌, length, get_or, take, drop, Option, Some, None, Result, Ok, Err, Bool, true, false, leb, if◌then◌else◌, refl, sym, ap, subst, arith, append_assoc, length-append, length-drop}
+use Rattle.std.proofs.Common.{◌≡◌, ◌≢◌, ◌∙◌, inl, inr, ℕ, zero, suc, ◌+◌, ◌-◌, ◌<◌, ◌≤◌, List, [], ◌∷◌, ◌++◌, length, get_or, take, drop, Some, None, Result, Ok, Err, Bool, true, false, leb, if◌then◌else◌, refl, sym, ap, subst, arith, append_assoc, length-append, length-drop}
 use Rattle.std.specs.Option.{option_map_or}
 use Rattle.std.specs.Cmp.{nat_cmp_total}
 use Rattle.std.specs.FinMap as map
@@ -21,9 +21,7 @@ use Rattle.bk_hint.specs.declared.listed.Listed.{Listed}
 use Rattle.bk_hint.specs.Entries.{origin, past, AreFrom}
 use Rattle.bk_hint.specs.Hint.{IsHint}
 use Rattle.bk_hint_view.specs.Rows.{head_of, AreRecords}
-use Rattle.bk_hint_disk.specs.declared.fault.HintStoreFault.{HintStoreFault}
-use Rattle.bk_hint_disk.specs.Hints.{Puts}
-use Rattle.bk_hint_disk.specs.Truth.{IsTrueHint, AreTrue}
+use Rattle.bk_hint_disk.specs.Truth.{AreTrue}
 
 -- ---- a record stays where its log grows
 
