@@ -7,3 +7,4 @@ mod logs;
 mod loose;
 mod meter;
 mod opened;
+mod random;
