@@ -42,8 +42,8 @@ fn an_opening_reads_few_bytes(rt: HostRuntime) -> Result<(), Fail> {
     };
     let read = meter.bytes() - before;
     assert_eq!(rt; store.stats().indexed as u64, 3 * ENTRIES);
-    // Header, and twice the ledgers map, of 72 bytes; no record.
-    assert!(rt; read < 3 * 1300, "{read} bytes");
+    // The header twice, by the store and by the disk, and the ledgers map twice; no record.
+    assert!(rt; read < 3 * 2300, "{read} bytes");
     Ok(())
 }
 
