@@ -1,0 +1,4 @@
+pub mod Heads
+pub mod Collecting
+pub mod Truths
+pub mod Using

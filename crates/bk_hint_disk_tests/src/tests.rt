@@ -1,0 +1,10 @@
+//! Openings of one disk, with hints and without.
+
+mod damaged;
+mod failing;
+mod folder;
+mod logs;
+mod loose;
+mod meter;
+mod opened;
+mod random;
