@@ -1,11 +1,13 @@
 //! What a session serves: a store, and a manifest of what is durable of its ledgers.
 
-ghost use Rattle.std.specs.Prelude.{◌≡◌, ◌++◌, OnOk};
+ghost use Rattle.std.specs.Prelude.{◌≡◌, ◌++◌, true, OnOk, IfSome, IfNone};
 ghost use Rattle.bk_serve_core.specs.Fields.{frame_of};
 ghost use Rattle.bk_serve_core.specs.Requests.{ask};
 ghost use Rattle.bk_serve_core.specs.Replies.{Told, refused, told_bytes};
 ghost use Rattle.bk_serve_core.specs.declared.refusal.Refusal.TheVariants as f;
+ghost use Rattle.bk_serve_dispatch.specs.Runs.{is_read};
 ghost use Rattle.bk_serve.specs.Answers.{Answers};
+ghost use Rattle.bk_serve.specs.Reads.{JobGives};
 
 use crate::adding::add;
 use crate::attributes::{attribute, set_attribute};
@@ -13,16 +15,19 @@ use crate::background::Background;
 use crate::compacting::compact;
 use crate::figures::figures;
 use crate::ledgers::{delete, fence, is_fenced};
-use crate::listing::{entries, last_entry, ledgers, read_last};
-use crate::reading::{holds, read, read_back};
+use crate::listing::{begin_read_last, entries, last_entry, ledgers};
+use crate::reading::{ReadJob, begin_read, begin_read_back, holds};
 use crate::sealing::{checkpoint, close, flush, seal};
-use bk_disk::{DirDisk, LogDisk};
+use crate::threads::Crew;
+use bk_disk::{DirDisk, LogDisk, LogView};
 use bk_manifest::{Manifest, ManifestFile};
 use bk_manifest_disk::{KeptDisk, KeptFile, LimitedDisk};
 use bk_serve_core::{EncodeError, Refusal, Reply, Request};
-use bk_serve_dispatch::Service;
+use bk_serve_dispatch::{Begun, Job, Service};
 use bk_store::{AddKind, Stats, Store};
 use std::alloc::Global;
+use std::rt::Clock;
+use std::thread::Threads;
 
 /// Kind of the attribute that is a ledger's master key.
 const MASTER_KEY: u32 = 0;
@@ -30,10 +35,11 @@ const MASTER_KEY: u32 = 0;
 /// Kind of the attribute that is a ledger's explicit LAC.
 const EXPLICIT_LAC: u32 = 1;
 
-/// A store, and the manifest of its ledgers.
+/// A store, the manifest of its ledgers, and the threads that carry out reads.
 #[derive(Drop)]
-pub(crate) struct Host<D: LogDisk, F: ManifestFile> {
+pub(crate) struct Host<D: LogDisk, F: ManifestFile, H> {
     pub(crate) alloc: Global,
+    pub(crate) crew: Crew<H>,
     pub(crate) store: Store<D>,
     pub(crate) notes: Manifest<F>,
     pub(crate) background: Background,
@@ -42,7 +48,9 @@ pub(crate) struct Host<D: LogDisk, F: ManifestFile> {
 /// The disk of the directory, with the manifest of its logs.
 pub(crate) type ServedDisk = KeptDisk<LimitedDisk<DirDisk>, KeptFile>;
 
-impl Service for Host<ServedDisk, KeptFile> {
+impl<H: Threads + Clock + Sync + Drop> Service for Host<ServedDisk, KeptFile, H> {
+    type Job = ReadJob<<ServedDisk as LogDisk>::View>;
+
     ghost use Rattle.bk_manifest_disk.specs.Limiting.{ShownView, shown};
     ghost use Rattle.bk_serve.specs.Flushes.{MayWork};
 
@@ -69,6 +77,15 @@ impl Service for Host<ServedDisk, KeptFile> {
         answered
     }
 
+    fn begin(&mut self, request: &Request<'_>) -> Option<Self::Job> {
+        begin(self, request)
+    }
+
+    fn carry_out(&self, run: &mut [Begun<Self::Job>]) {
+        let leased = run.iter().filter(|one| is_leased(*one)).count();
+        self.crew.carry_out(self.alloc, leased, run);
+    }
+
     fn is_due(&self) -> bool {
         self.background.is_due()
     }
@@ -84,13 +101,44 @@ fn is_less(after: &Stats, before: &Stats) -> bool {
     after.cached < before.cached || after.indexed < before.indexed
 }
 
+/// Returns whether a begun read has a lease.
+fn is_leased<V: LogView>(one: &Begun<ReadJob<V>>) -> bool {
+    matches!(one.job(), Some(ReadJob::Leased { .. }))
+}
+
+/// Begins a read. Returns `None`, and does nothing, if the request is none.
+fn begin<D: LogDisk, F: ManifestFile, H>(
+    host: &mut Host<D, F, H>,
+    request: &Request<'_>,
+) -> Option<ReadJob<D::View>>
+    ensures read { IfSome result (λ job. is_read (ask request.now) ≡ true) }
+    ensures some { IfSome result (λ job. (t : Told) → JobGives D.View.bytes D.View.honest job t
+        → Answers D.View.bytes D.View.honest D.View.sound host.old.store host.old.notes (ask request.now) t host.new.store host.new.notes) }
+    ensures none { IfNone result (host.new ≡ host.old) }
+{
+    let alloc = host.alloc;
+    match *request {
+        Request::Read { ledger, entry } => {
+            Some(begin_read(alloc, &mut host.store, ledger, entry))
+        }
+        Request::ReadLast { ledger } => Some(begin_read_last(alloc, &mut host.store, ledger)),
+        Request::ReadBack {
+            number,
+            ledger,
+            entry,
+            digest,
+        } => Some(begin_read_back(alloc, &mut host.store, number, ledger, entry, &digest)),
+        _ => None,
+    }
+}
+
 /// Carries out a request and appends its reply.
 ///
 /// # Errors
 ///
 /// The request was carried out, and its reply was not encoded.
-pub(crate) fn answer<D: LogDisk, F: ManifestFile>(
-    host: &mut Host<D, F>,
+pub(crate) fn answer<D: LogDisk, F: ManifestFile, H>(
+    host: &mut Host<D, F, H>,
     id: u64,
     request: &Request<'_>,
     out: &mut Vec<u8>,
@@ -103,6 +151,7 @@ pub(crate) fn answer<D: LogDisk, F: ManifestFile>(
         store,
         notes,
         background,
+        ..
     } = host;
     let is_busy = background.has_job();
     let alloc = *alloc;
@@ -135,14 +184,14 @@ pub(crate) fn answer<D: LogDisk, F: ManifestFile>(
             content,
         )
         .encode(id, out),
-        Request::Read { ledger, entry } => read(alloc, store, ledger, entry, id, out),
-        Request::ReadLast { ledger } => read_last(alloc, store, ledger, id, out),
+        Request::Read { ledger, entry } => begin_read(alloc, store, ledger, entry).run(id, out),
+        Request::ReadLast { ledger } => begin_read_last(alloc, store, ledger).run(id, out),
         Request::ReadBack {
             number,
             ledger,
             entry,
             digest,
-        } => read_back(alloc, store, number, ledger, entry, &digest, id, out),
+        } => begin_read_back(alloc, store, number, ledger, entry, &digest).run(id, out),
         Request::LastEntry { ledger } => last_entry(store, ledger).encode(id, out),
         Request::Entries { ledger, from, most } => {
             entries(alloc, store, ledger, from, most, id, out)

@@ -60,7 +60,10 @@ pub(crate) enum ReadJob<V: Drop> {
     /// The read is refused.
     Refused(Refusal),
     /// The entry, from a cache.
-    Cached { key: Key, payload: Arc<Vec<u8>> },
+    Cached {
+        key: Key,
+        payload: Arc<Vec<u8>>,
+    },
     /// The entry is in the log of this lease.
     Leased {
         alloc: Global,

@@ -10,6 +10,7 @@ use bk_serve_dispatch::{
     Buffers, End, Input, Service, Source, finish, greet, serve_requests, tell_end,
 };
 use std::io::{BufReader, BufWriter, Read, Stderr, Write};
+use std::rt::Clock;
 use std::sync::Wait;
 use std::thread;
 use std::thread::Threads;
@@ -31,7 +32,7 @@ const WELCOME: Reply<'static> = Reply::Done(Done::Welcome {
 /// order and everything was flushed, else 1. Writes why the directory did not open to the error
 /// stream too, which manifest ended torn, what is ignored of the logs, and how many steps of the
 /// compaction failed.
-pub(crate) fn serve<H: Threads + Wait + Copy + Drop + Send + 'static>(
+pub(crate) fn serve<H: Threads + Wait + Clock + Copy + Drop + Send + Sync + 'static>(
     rt: &HostRuntime,
     handle: H,
     path: &str,
@@ -39,7 +40,7 @@ pub(crate) fn serve<H: Threads + Wait + Copy + Drop + Send + 'static>(
     errors: &mut Stderr,
 ) -> u8 {
     if compact.is_none() {
-        return serve_input(rt, rt.stdin(), path, compact, errors);
+        return serve_input(rt, handle, rt.stdin(), path, compact, errors);
     }
     let Some((to, input)) = Pumped::new(rt.alloc(), handle) else {
         let _ = writeln!(errors, "fault memory");
@@ -49,7 +50,7 @@ pub(crate) fn serve<H: Threads + Wait + Copy + Drop + Send + 'static>(
     let stdin = rt.stdin();
     // The thread is not joined: it may wait for input after the session has ended.
     match thread::spawn(&handle, move || pump(&handle, alloc, stdin, to)) {
-        Ok(_reading) => serve_input(rt, input, path, compact, errors),
+        Ok(_reading) => serve_input(rt, handle, input, path, compact, errors),
         Err(_) => {
             let _ = writeln!(errors, "fault thread");
             1
@@ -58,8 +59,9 @@ pub(crate) fn serve<H: Threads + Wait + Copy + Drop + Send + 'static>(
 }
 
 /// Opens the directory at a path and serves it by this input.
-fn serve_input<I: Source + Drop>(
+fn serve_input<I: Source + Drop, H: Threads + Clock + Sync + Drop>(
     rt: &HostRuntime,
+    handle: H,
     input: I,
     path: &str,
     compact: Option<Thresholds>,
@@ -75,7 +77,7 @@ fn serve_input<I: Source + Drop>(
         return 1;
     };
     let mut buffers = Buffers::new(alloc);
-    match open(rt, path, compact) {
+    match open(rt, handle, path, compact) {
         Ok(
             Opening {
                 mut host,

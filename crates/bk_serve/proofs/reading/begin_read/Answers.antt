@@ -1,0 +1,11 @@
+use Rattle.std.proofs.Common.{inl, inr, subst, sym}
+use Rattle.bk_serve.specs.Reads.{IsRefused}
+use Rattle.bk_serve.proofs.Ids.{refuses_ids}
+use Rattle.bk_serve.proofs.reading.begin_read.Goals as goal
+
+pub returns-in-Some : goal.returns-in-Some
+returns-in-Some g c = λ t is. inr (c.take.ensures t is)
+
+pub returns-in-None : goal.returns-in-None
+returns-in-None g c = λ t is.
+    inl (subst (λ r. IsRefused c.args.ledger c.args.entry c.args.store.now r c.args.store.now) (sym is) (refuses_ids c.args.ledger c.args.entry c.args.store.now c.in-None.ensures))
