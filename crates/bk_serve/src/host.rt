@@ -16,18 +16,15 @@ use crate::compacting::compact;
 use crate::figures::figures;
 use crate::ledgers::{delete, fence, is_fenced};
 use crate::listing::{begin_read_last, entries, last_entry, ledgers};
-use crate::reading::{ReadJob, begin_read, begin_read_back, holds};
+use crate::reading::{ReadJob, begin_read, begin_read_back, holds, run_read};
 use crate::sealing::{checkpoint, close, flush, seal};
-use crate::threads::Crew;
-use bk_disk::{DirDisk, LogDisk, LogView};
+use bk_disk::{DirDisk, DirView, LogDisk};
 use bk_manifest::{Manifest, ManifestFile};
-use bk_manifest_disk::{KeptDisk, KeptFile, LimitedDisk};
+use bk_manifest_disk::{KeptDisk, KeptFile, LimitedDisk, LimitedView};
 use bk_serve_core::{EncodeError, Refusal, Reply, Request};
-use bk_serve_dispatch::{Begun, Job, Service};
+use bk_serve_dispatch::Service;
 use bk_store::{AddKind, Stats, Store};
 use std::alloc::Global;
-use std::rt::Clock;
-use std::thread::Threads;
 
 /// Kind of the attribute that is a ledger's master key.
 const MASTER_KEY: u32 = 0;
@@ -35,11 +32,10 @@ const MASTER_KEY: u32 = 0;
 /// Kind of the attribute that is a ledger's explicit LAC.
 const EXPLICIT_LAC: u32 = 1;
 
-/// A store, the manifest of its ledgers, and the threads that carry out reads.
+/// A store, and the manifest of its ledgers.
 #[derive(Drop)]
-pub(crate) struct Host<D: LogDisk, F: ManifestFile, H> {
+pub(crate) struct Host<D: LogDisk, F: ManifestFile> {
     pub(crate) alloc: Global,
-    pub(crate) crew: Crew<H>,
     pub(crate) store: Store<D>,
     pub(crate) notes: Manifest<F>,
     pub(crate) background: Background,
@@ -48,8 +44,11 @@ pub(crate) struct Host<D: LogDisk, F: ManifestFile, H> {
 /// The disk of the directory, with the manifest of its logs.
 pub(crate) type ServedDisk = KeptDisk<LimitedDisk<DirDisk>, KeptFile>;
 
-impl<H: Threads + Clock + Sync + Drop> Service for Host<ServedDisk, KeptFile, H> {
-    type Job = ReadJob<<ServedDisk as LogDisk>::View>;
+/// A view of one of its logs.
+pub(crate) type ServedView = LimitedView<DirView>;
+
+impl Service for Host<ServedDisk, KeptFile> {
+    type Job = ReadJob<ServedView>;
 
     ghost use Rattle.bk_manifest_disk.specs.Limiting.{ShownView, shown};
     ghost use Rattle.bk_serve.specs.Flushes.{MayWork};
@@ -81,11 +80,6 @@ impl<H: Threads + Clock + Sync + Drop> Service for Host<ServedDisk, KeptFile, H>
         begin(self, request)
     }
 
-    fn carry_out(&self, run: &mut [Begun<Self::Job>]) {
-        let leased = run.iter().filter(|one| is_leased(*one)).count();
-        self.crew.carry_out(self.alloc, leased, run);
-    }
-
     fn is_due(&self) -> bool {
         self.background.is_due()
     }
@@ -101,14 +95,9 @@ fn is_less(after: &Stats, before: &Stats) -> bool {
     after.cached < before.cached || after.indexed < before.indexed
 }
 
-/// Returns whether a begun read has a lease.
-fn is_leased<V: LogView>(one: &Begun<ReadJob<V>>) -> bool {
-    matches!(one.job(), Some(ReadJob::Leased { .. }))
-}
-
 /// Begins a read. Returns `None`, and does nothing, if the request is none.
-fn begin<D: LogDisk, F: ManifestFile, H>(
-    host: &mut Host<D, F, H>,
+fn begin<D: LogDisk, F: ManifestFile>(
+    host: &mut Host<D, F>,
     request: &Request<'_>,
 ) -> Option<ReadJob<D::View>>
     ensures read { IfSome result (λ job. is_read (ask request.now) ≡ true) }
@@ -137,8 +126,8 @@ fn begin<D: LogDisk, F: ManifestFile, H>(
 /// # Errors
 ///
 /// The request was carried out, and its reply was not encoded.
-pub(crate) fn answer<D: LogDisk, F: ManifestFile, H>(
-    host: &mut Host<D, F, H>,
+pub(crate) fn answer<D: LogDisk, F: ManifestFile>(
+    host: &mut Host<D, F>,
     id: u64,
     request: &Request<'_>,
     out: &mut Vec<u8>,
@@ -151,7 +140,6 @@ pub(crate) fn answer<D: LogDisk, F: ManifestFile, H>(
         store,
         notes,
         background,
-        ..
     } = host;
     let is_busy = background.has_job();
     let alloc = *alloc;
@@ -184,14 +172,14 @@ pub(crate) fn answer<D: LogDisk, F: ManifestFile, H>(
             content,
         )
         .encode(id, out),
-        Request::Read { ledger, entry } => begin_read(alloc, store, ledger, entry).run(id, out),
-        Request::ReadLast { ledger } => begin_read_last(alloc, store, ledger).run(id, out),
+        Request::Read { ledger, entry } => run_read(begin_read(alloc, store, ledger, entry), id, out),
+        Request::ReadLast { ledger } => run_read(begin_read_last(alloc, store, ledger), id, out),
         Request::ReadBack {
             number,
             ledger,
             entry,
             digest,
-        } => begin_read_back(alloc, store, number, ledger, entry, &digest).run(id, out),
+        } => run_read(begin_read_back(alloc, store, number, ledger, entry, &digest), id, out),
         Request::LastEntry { ledger } => last_entry(store, ledger).encode(id, out),
         Request::Entries { ledger, from, most } => {
             entries(alloc, store, ledger, from, most, id, out)

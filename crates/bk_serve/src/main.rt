@@ -21,7 +21,6 @@ mod refusals;
 mod sealing;
 mod serving;
 mod tally;
-mod threads;
 
 use command::{Command, HELP, VERSION, command_of, words_of};
 use serving::serve;

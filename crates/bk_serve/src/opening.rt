@@ -3,7 +3,6 @@
 use crate::background::{Background, Thresholds};
 use crate::folder::open_folder;
 use crate::host::{Host, ServedDisk};
-use crate::threads::Crew;
 use bk_disk::{DiskFault, FolderFault, LogDisk};
 use bk_ledgers::{LEDGERS, Torn, ledgers_of, open_ledgers};
 use bk_manifest::{Manifest, ManifestError, ManifestFile};
@@ -143,13 +142,12 @@ fn settings_of(compact: Option<Thresholds>) -> Settings {
 }
 
 /// Opens a store on the logs of a disk, with the deletions and fences of a manifest.
-fn open_host<D: LogDisk, F: ManifestFile, H: Drop>(
+fn open_host<D: LogDisk, F: ManifestFile>(
     alloc: Global,
-    crew: Crew<H>,
     disk: D,
     notes: Manifest<F>,
     compact: Option<Thresholds>,
-) -> Result<Host<D, F, H>, OpenFault> {
+) -> Result<Host<D, F>, OpenFault> {
     let records = notes.state().records(alloc)?;
     let named = ledgers_of(alloc, &records)?;
     let mut store = match Store::open(alloc, disk, settings_of(compact), &named.deleted) {
@@ -159,7 +157,6 @@ fn open_host<D: LogDisk, F: ManifestFile, H: Drop>(
     fence_all(&mut store, &named.fenced)?;
     Ok(Host {
         alloc,
-        crew,
         store,
         notes,
         background: Background::new(compact),
@@ -175,21 +172,20 @@ pub(crate) struct TornFile {
 
 /// A directory that is served.
 #[derive(Drop)]
-pub(crate) struct Opening<H> {
-    pub(crate) host: Host<ServedDisk, KeptFile, H>,
+pub(crate) struct Opening {
+    pub(crate) host: Host<ServedDisk, KeptFile>,
     /// The manifests that ended torn.
     pub(crate) torn: Vec<TornFile>,
     /// What is hidden of the logs, in their order.
     pub(crate) reports: Vec<Report>,
 }
 
-/// Opens the directory at a path. The handle starts the threads that carry out reads.
-pub(crate) fn open<H: Drop>(
+/// Opens the directory at a path.
+pub(crate) fn open(
     rt: &HostRuntime,
-    handle: H,
     path: &str,
     compact: Option<Thresholds>,
-) -> Result<Opening<H>, OpenFault> {
+) -> Result<Opening, OpenFault> {
     let alloc = rt.alloc();
     let mut disk = open_folder(rt, path)?;
     let ledgers = open_ledgers(alloc, &mut disk)?;
@@ -201,13 +197,7 @@ pub(crate) fn open<H: Drop>(
         }
     }
     Ok(Opening {
-        host: open_host(
-            alloc,
-            Crew::new(handle),
-            logs.disk,
-            ledgers.manifest,
-            compact,
-        )?,
+        host: open_host(alloc, logs.disk, ledgers.manifest, compact)?,
         torn: all,
         reports: logs.reports,
     })

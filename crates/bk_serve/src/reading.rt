@@ -6,6 +6,7 @@ ghost use Rattle.bk_serve_core.specs.Fields.{frame_of};
 ghost use Rattle.bk_serve_core.specs.Replies.{Told, told, told_bytes};
 ghost use Rattle.bk_serve.specs.Reads.{HoldsAnswers, JobGives, ReadAnswers, ReadBackAnswers, GivesLeased, GivesPayload, IsRead, LooksUp};
 
+use crate::host::ServedView;
 use crate::refusals::{of_fetch, of_take};
 use bk_disk::{LogDisk, LogView};
 use bk_lease::Lease;
@@ -73,25 +74,42 @@ pub(crate) enum ReadJob<V: Drop> {
     },
 }
 
-impl<V: LogView> Job for ReadJob<V> {
-    ghost gives = { λ job t. JobGives V.bytes V.honest job t };
+/// Carries out a read, and appends the reply. Its lease ends here.
+pub(crate) fn run_read<V: LogView>(
+    job: ReadJob<V>,
+    id: u64,
+    out: &mut Vec<u8>,
+) -> Result<(), EncodeError>
+    ensures { (t : Told) × JobGives V.bytes V.honest job t × OnOk result (out.new.items ≡ out.old.items ++ frame_of id (told_bytes t)) }
+{
+    match job {
+        ReadJob::NotHeld => Reply::Done(Done::NotHeld).encode(id, out),
+        ReadJob::Refused(refusal) => Reply::Refused(refusal).encode(id, out),
+        ReadJob::Cached { key, payload } => give_payload(key, &payload, id, out),
+        ReadJob::Leased {
+            alloc,
+            lease,
+            location,
+            key,
+        } => {
+            let given = give_leased(alloc, &lease, location, key, id, out);
+            lease.release().end();
+            given
+        }
+    }
+}
+
+impl Job for ReadJob<ServedView> {
+    ghost use Rattle.bk_manifest_disk.specs.Limiting.{ShownView, shown};
+
+    ghost gives = { λ job t. JobGives {V = ShownView} (λ v. shown v.limit v.bytes) (λ v. v.honest) job t };
+
+    fn may_wait(&self) -> bool {
+        matches!(self, ReadJob::Leased { .. })
+    }
 
     fn run(self, id: u64, out: &mut Vec<u8>) -> Result<(), EncodeError> {
-        match self {
-            ReadJob::NotHeld => Reply::Done(Done::NotHeld).encode(id, out),
-            ReadJob::Refused(refusal) => Reply::Refused(refusal).encode(id, out),
-            ReadJob::Cached { key, payload } => give_payload(key, &payload, id, out),
-            ReadJob::Leased {
-                alloc,
-                lease,
-                location,
-                key,
-            } => {
-                let given = give_leased(alloc, &lease, location, key, id, out);
-                lease.release().end();
-                given
-            }
-        }
+        run_read(self, id, out)
     }
 }
 

@@ -40,7 +40,7 @@ pub(crate) fn serve<H: Threads + Wait + Clock + Copy + Drop + Send + Sync + 'sta
     errors: &mut Stderr,
 ) -> u8 {
     if compact.is_none() {
-        return serve_input(rt, handle, rt.stdin(), path, compact, errors);
+        return serve_input(rt, &handle, rt.stdin(), path, compact, errors);
     }
     let Some((to, input)) = Pumped::new(rt.alloc(), handle) else {
         let _ = writeln!(errors, "fault memory");
@@ -50,7 +50,7 @@ pub(crate) fn serve<H: Threads + Wait + Clock + Copy + Drop + Send + Sync + 'sta
     let stdin = rt.stdin();
     // The thread is not joined: it may wait for input after the session has ended.
     match thread::spawn(&handle, move || pump(&handle, alloc, stdin, to)) {
-        Ok(_reading) => serve_input(rt, handle, input, path, compact, errors),
+        Ok(_reading) => serve_input(rt, &handle, input, path, compact, errors),
         Err(_) => {
             let _ = writeln!(errors, "fault thread");
             1
@@ -59,9 +59,9 @@ pub(crate) fn serve<H: Threads + Wait + Clock + Copy + Drop + Send + Sync + 'sta
 }
 
 /// Opens the directory at a path and serves it by this input.
-fn serve_input<I: Source + Drop, H: Threads + Clock + Sync + Drop>(
+fn serve_input<I: Source + Drop, H: Threads + Clock + Sync>(
     rt: &HostRuntime,
-    handle: H,
+    handle: &H,
     input: I,
     path: &str,
     compact: Option<Thresholds>,
@@ -77,7 +77,7 @@ fn serve_input<I: Source + Drop, H: Threads + Clock + Sync + Drop>(
         return 1;
     };
     let mut buffers = Buffers::new(alloc);
-    match open(rt, handle, path, compact) {
+    match open(rt, path, compact) {
         Ok(
             Opening {
                 mut host,
@@ -86,7 +86,7 @@ fn serve_input<I: Source + Drop, H: Threads + Clock + Sync + Drop>(
             },
         ) => {
             tell_ignored(&torn, &reports, errors);
-            let status = serve_session(&mut host, &mut reader, &mut writer, &mut buffers);
+            let status = serve_session(handle, &mut host, &mut reader, &mut writer, &mut buffers);
             tell_faults(host.background.faults(), errors);
             status
         }
@@ -120,14 +120,15 @@ fn tell_ignored(torn: &[TornFile], reports: &[Report], errors: &mut Stderr) {
 }
 
 /// Serves a session of an open directory. Returns the exit status.
-fn serve_session<S: Service, R: Input, W: Write>(
+fn serve_session<H: Threads + Clock + Sync, S: Service, R: Input, W: Write>(
+    handle: &H,
     service: &mut S,
     reader: &mut R,
     writer: &mut W,
     buffers: &mut Buffers,
 ) -> u8 {
     let end = match greet(reader, writer, &WELCOME, buffers) {
-        Ok(first) => serve_requests(service, reader, writer, first, buffers),
+        Ok(first) => serve_requests(handle, service, reader, writer, first, buffers),
         Err(end) => {
             tell_end(writer, end, buffers);
             return 1;

@@ -1,2 +1,3 @@
+mod Carrying
 mod ReadRuns
 mod Turns

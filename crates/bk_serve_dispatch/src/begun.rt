@@ -20,22 +20,22 @@ pub(crate) enum Stage<J> {
 
 /// A request that was begun: its id, and its job or the reply.
 #[derive(Drop)]
-pub struct Begun<J> {
+pub(crate) struct Begun<J> {
     pub(crate) id: u64,
     pub(crate) stage: Stage<J>,
 }
 
 impl<J: Job> Begun<J> {
-    /// Returns the job, if it was not carried out.
-    pub fn job(&self) -> Option<&J> {
+    /// Returns whether the job was not carried out and may wait for a device.
+    pub(crate) fn may_wait(&self) -> bool {
         match &self.stage {
-            Stage::Waits(job) => Some(job),
-            _ => None,
+            Stage::Waits(job) => job.may_wait(),
+            _ => false,
         }
     }
 
     /// Returns the number of bytes of the reply that is kept.
-    pub fn kept(&self) -> usize {
+    pub(crate) fn kept(&self) -> usize {
         match &self.stage {
             Stage::Said(reply) => reply.len(),
             _ => 0,
@@ -43,7 +43,7 @@ impl<J: Job> Begun<J> {
     }
 
     /// Carries the job out and keeps the reply. Does nothing if this was done.
-    pub fn carry_out(&mut self, alloc: Global)
+    pub(crate) fn carry_out(&mut self, alloc: Global)
         ensures { Carries J.gives self.old self.new }
     {
         match replace(&mut self.stage, Stage::Unsaid) {

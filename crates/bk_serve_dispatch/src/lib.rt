@@ -9,8 +9,8 @@ mod judging;
 mod runs;
 mod service;
 mod session;
+mod threads;
 
-pub use begun::Begun;
 pub use ending::{End, finish, tell_end};
 pub use greeting::greet;
 pub use input::{Input, Source};

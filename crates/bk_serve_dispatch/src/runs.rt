@@ -5,7 +5,7 @@ ghost use Rattle.std.specs.Io.KnownBytes.{Appends};
 ghost use Rattle.bk_serve_core.specs.Reading.{ReadsFrame};
 ghost use Rattle.bk_serve_dispatch.specs.declared.begun.Stage.TheVariants.{Waits};
 ghost use Rattle.bk_serve_dispatch.specs.declared.ending.End.TheVariants.{OutputFailed};
-ghost use Rattle.bk_serve_dispatch.specs.Jobs.{BeginsOne, CarryEach, IsRun, Tells, TellsOne};
+ghost use Rattle.bk_serve_dispatch.specs.Jobs.{BeginsOne, IsRun, Tells, TellsOne};
 ghost use Rattle.bk_serve_dispatch.specs.Session.{Gathers, ReadsNext};
 
 use crate::begun::{Begun, Stage};
@@ -120,16 +120,6 @@ pub(crate) fn gather<S: Service, R: Input>(
     Gathered {
         last: at,
         next: Next::Pause,
-    }
-}
-
-/// Has the service carry out jobs of a run, unless it is of one read.
-pub(crate) fn carry_out<S: Service>(service: &S, run: &mut Vec<Begun<S::Job>>)
-    ensures length { length run.new.items ≡ length run.old.items }
-    ensures each { CarryEach S.Job.gives run.old.items run.new.items }
-{
-    if run.len() > 1 {
-        service.carry_out(run);
     }
 }
 

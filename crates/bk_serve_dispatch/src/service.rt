@@ -1,19 +1,20 @@
 //! What a session serves.
 
-ghost use Rattle.std.specs.Prelude.{◌≡◌, ◌++◌, true, OnOk, IfSome, IfNone, length};
+ghost use Rattle.std.specs.Prelude.{◌≡◌, ◌++◌, true, OnOk, IfSome, IfNone};
 ghost use Rattle.bk_serve_core.specs.Fields.{frame_of};
 ghost use Rattle.bk_serve_core.specs.Requests.{Ask, ask};
 ghost use Rattle.bk_serve_core.specs.Replies.{Told, told_bytes};
-ghost use Rattle.bk_serve_dispatch.specs.Jobs.{CarryEach};
 ghost use Rattle.bk_serve_dispatch.specs.Runs.{is_read};
 
-use crate::begun::Begun;
 use bk_serve_core::{EncodeError, Request};
 
 /// What the reply to a begun request is made of. Any thread may carry it out.
 pub trait Job: Send + Drop {
     // The job may have this reply.
     ghost gives: { Self → Told → Type 0 };
+
+    /// Returns whether the job may wait for a device.
+    fn may_wait(&self) -> bool;
 
     /// Carries the job out and appends one frame, the reply with this id.
     ///
@@ -51,10 +52,6 @@ pub trait Service {
         ensures read { IfSome result (λ job. is_read (ask request.now) ≡ true) }
         ensures some { IfSome result (λ job. (t : Told) → Self.Job.gives job t → answers self.old (ask request.now) t self.new) }
         ensures none { IfNone result (self.new ≡ self.old) };
-
-    /// Carries out jobs of a run, in any order and by any threads. May leave some of them.
-    fn carry_out(&self, run: &mut [Begun<Self::Job>])
-        ensures { CarryEach Self.Job.gives run.old run.new };
 
     /// Returns whether a step of its own is due.
     fn is_due(&self) -> bool;

@@ -9,11 +9,14 @@ ghost use Rattle.bk_serve_core.specs.Requests.{ask};
 use crate::ending::{End, closed_in};
 use crate::input::Input;
 use crate::judging::judge;
-use crate::runs::{Gathered, Next, carry_out, gather, tell_all};
+use crate::runs::{Gathered, Next, gather, tell_all};
 use crate::service::Service;
+use crate::threads::carry_run;
 use bk_serve_core::{Ended, FrameFault, LONGEST_FRAME, Request};
 use std::alloc::Global;
 use std::io::Write;
+use std::rt::Clock;
+use std::thread::Threads;
 
 /// Number of requests after which a step of the service is due although requests wait.
 const PATIENCE: u64 = 256;
@@ -113,7 +116,8 @@ fn take_frame<S: Service, W: Write>(
 
 /// Reads a frame, carries out its request and writes the reply. If it is a read, does the same with
 /// the reads after it that are there, as one run. Counts the requests in `served`.
-fn take_turn<S: Service, R: Input, W: Write>(
+fn take_turn<H: Threads + Clock + Sync, S: Service, R: Input, W: Write>(
+    handle: &H,
     service: &mut S,
     reader: &mut R,
     writer: &mut W,
@@ -127,7 +131,7 @@ fn take_turn<S: Service, R: Input, W: Write>(
     let mut run = Vec::new(*buffers.frame.allocator());
     let Gathered { last, next } = gather(service, reader, &mut run, last, &mut buffers.frame);
     *served = served.saturating_add(run.len() as u64 + 1);
-    carry_out(service, &mut run);
+    carry_run(handle, *buffers.frame.allocator(), &mut run);
     if let Some(end) = tell_all(run, writer, &mut buffers.out) {
         return Turn::Ended(end);
     }
@@ -186,13 +190,14 @@ fn pause<S: Service, R: Input, W: Write>(
 /// fault. Each request is carried out once, in the order of the input, and answered by one frame with
 /// its id, in the same order. The writer may keep replies back as long as the next frame is there.
 ///
-/// Reads that follow one another and are there are begun one after another, and then carried out by
-/// `carry_out` of the service, in any order, before the first of them is answered.
+/// Reads that follow one another and are there are a run of at most 64: they are begun one after
+/// another, then carried out in any order, by several threads if they take long, and then answered.
 ///
 /// The service performs steps of its own while no input waits, and one after every 256 requests.
 ///
 /// The fault of a frame is not written: see `finish`.
-pub fn serve_requests<S: Service, R: Input, W: Write>(
+pub fn serve_requests<H: Threads + Clock + Sync, S: Service, R: Input, W: Write>(
+    handle: &H,
     service: &mut S,
     reader: &mut R,
     writer: &mut W,
@@ -208,7 +213,7 @@ pub fn serve_requests<S: Service, R: Input, W: Write>(
         if !pause(service, reader, writer, &mut served) {
             return End::NotWrittenOut;
         }
-        match take_turn(service, reader, writer, last, &mut served, buffers) {
+        match take_turn(handle, service, reader, writer, last, &mut served, buffers) {
             Turn::Answered(id) => last = id,
             Turn::Ended(end) => return end,
         }
