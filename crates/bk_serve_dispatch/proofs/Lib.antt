@@ -1,3 +1,2 @@
-mod Carrying
 mod ReadRuns
 mod Turns
