@@ -172,14 +172,22 @@ pub(crate) fn answer<D: LogDisk, F: ManifestFile>(
             content,
         )
         .encode(id, out),
-        Request::Read { ledger, entry } => run_read(begin_read(alloc, store, ledger, entry), id, out),
+        Request::Read { ledger, entry } => run_read(
+            begin_read(alloc, store, ledger, entry),
+            id,
+            out,
+        ),
         Request::ReadLast { ledger } => run_read(begin_read_last(alloc, store, ledger), id, out),
         Request::ReadBack {
             number,
             ledger,
             entry,
             digest,
-        } => run_read(begin_read_back(alloc, store, number, ledger, entry, &digest), id, out),
+        } => run_read(
+            begin_read_back(alloc, store, number, ledger, entry, &digest),
+            id,
+            out,
+        ),
         Request::LastEntry { ledger } => last_entry(store, ledger).encode(id, out),
         Request::Entries { ledger, from, most } => {
             entries(alloc, store, ledger, from, most, id, out)
