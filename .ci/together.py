@@ -27,7 +27,7 @@ OPEN = re.compile(r"note: src/(\S+)\.rt:\d+:\d+: it is not proved (.*)")
 # An error of an edited text: it could not be read, or a rule of the language other than a contract refuses it.
 UNREAD = re.compile(r"(?:\./)?(?:src|specs)/\S+:\d+:\d+: error: ")
 # What the prover says if it does not know which function is meant.
-UNKNOWN = re.compile(r"^rattle: error: .*(?:has no function|several functions are named)", re.M)
+UNKNOWN = re.compile(r"^rattle: error: .*(?:has no function|several functions are named) `([^`]+)`", re.M)
 # The trait of an impl.
 TRAIT = re.compile(r"\s*impl\b.*?(\w+)(?:<[^{]*>)? for ")
 
@@ -36,7 +36,7 @@ class Edit:
     """An edit of a crate: what it replaces in which file, and the functions that it changes, None if it changes more."""
 
     def __init__(self, folder, name):
-        self.name, self.pairs, self.paths, path, old = name, [], set(), "", None
+        self.name, self.pairs, self.paths, path, old = name, [], {}, "", None
         for line in (folder / "must-fail" / name).read_text().split("\n"):
             if line.startswith("file: "):
                 path = line[len("file: ") :].strip()
@@ -44,6 +44,7 @@ class Edit:
                 old = line[len("old: ") :]
             elif line.startswith("new:") and path and old:
                 self.pairs.append((path, old, line[len("new:") :].removeprefix(" ")))
+        # The functions' names for the prover, with their modules.
         self.functions = {self.function(folder, path, old) for path, old, _ in self.pairs}
         if None in self.functions:
             self.functions = None
@@ -63,7 +64,7 @@ class Edit:
                 kind, trait = (it and it[1] for it in (tried.IMPL.match(impl), TRAIT.match(impl)))
                 module = path.removeprefix("src/").removesuffix(".rt").replace("/", "::")
                 around = f"{kind}{trait or ''}" if kind else folder.name if module in ("lib", "main") else module
-                self.paths.add(f"{around}::{found[2]}")
+                self.paths[f"{around}::{found[2]}"] = module
                 return (module, kind, found[2]) if start <= at <= end else None
         return None
 
@@ -143,15 +144,22 @@ class Crate:
         self.name, self.folder, self.copy = name, top / "crates" / name, runs.copy_of(top, name, Path(room))
         self.left = [Edit(self.folder, it) for it in sorted(tried.edits_of(top, name))]
 
-    def check(self, paths=()):
-        """Checks the crate, or these functions of it and those that they call."""
+    def check(self, paths=None):
+        """Checks the crate, or these functions of it and those that they call: all functions of the module of one that the
+        prover has under another name."""
+        paths = paths or {}
         status, said = runs.rt(self.copy, "check", "--jobs", "1", *(word for it in sorted(paths) for word in ("--only", it)))
-        return self.check() if paths and UNKNOWN.search(said) else (status, said)
+        unknown = UNKNOWN.search(said)
+        if not paths or not unknown:
+            return status, said
+        module = paths.get(unknown[1], unknown[1])
+        others = {it: of for it, of in paths.items() if it != unknown[1]}
+        return self.check({} if module == unknown[1] else {**others, module: module})
 
     def together(self, tell):
         """Tries one group of edits. Returns whether that showed something of one of them."""
         fitting = apply(groups(self.left), self.folder, self.copy)
-        status, said = self.check({path for it in fitting for path in it.paths})
+        status, said = self.check({path: module for it in fitting for path, module in it.paths.items()})
         found = refusals(self.name, said) if status == 1 and not any(map(UNREAD.match, said.splitlines())) else {}
         shown = {}
         for edit in fitting:
