@@ -33,12 +33,13 @@ impl DirHints {
         format!(in self.rt.alloc(); "{}/{log:x}.hint", self.folder)
     }
 
-    /// Writes a file of these bytes, in place of one that is there.
+    /// Writes a new file of these bytes, in place of one that is there. A link is replaced, and not
+    /// followed.
     fn write(&self, path: &str, hint: &[u8]) -> Result<(), HintStoreFault> {
+        let _ = fs::remove_file(&self.rt, path);
         let opened = OpenOptions::new()
             .write(true)
-            .create(true)
-            .truncate(true)
+            .create_new(true)
             .open(&self.rt, path);
         let mut file = match opened {
             Ok(file) => file,
