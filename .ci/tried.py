@@ -78,6 +78,11 @@ def is_of_tests(top, crate):
     return tokens_of(code_of(lib)) == tokens_of(["#![tactic(auto)]"]) and bool(TESTS.search(lib.read_text()))
 
 
+def test_crates(top):
+    """Returns the crates that have nothing but tests."""
+    return [it for it in libraries(top) if is_of_tests(top, it)]
+
+
 def without_comments(text, suffix):
     mark = COMMENT.get(suffix)
     return [it for it in text.splitlines() if mark is None or not it.lstrip().startswith(mark)]

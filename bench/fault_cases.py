@@ -317,6 +317,56 @@ class CutBad(Cut):
     name, tail = "seal-cut-zeros", bytes(600)
 
 
+class Hint(Case):
+    """The hints of a folder whose logs are sealed but one."""
+
+    name = command = "hint"
+
+    def make_base(self):
+        base = super().make_base()
+        self.logs = {path.name: path.read_bytes() for path in base.glob("*.log")}
+        return base
+
+    def words(self, folder):
+        return ["hint", folder]
+
+    def other_losses(self, folder):
+        same = {path.name: path.read_bytes() for path in folder.glob("*.log")} == self.logs
+        return [] if same else ["a log is changed"]
+
+    def again(self, call, folder):
+        """The hints are made then, and are right, unless a log was set aside: a writer has to take it back first."""
+        if list(folder.glob("*.unsynced")):
+            call(["script", "--folder", folder], "")
+        ran = call(self.words(folder), "")
+        check = self.program.call(["hint", "--check", folder])
+        sealed = [log for log, found in entry_logs.read_folder(folder).items() if found.is_sealed()]
+        are_right = all(f"{log} right" in check.out.splitlines() for log in sealed)
+        return {}, None if ran.status == 0 and check.status == 0 and are_right else f"{ran.last()}; {check.out.strip()[-100:]}"
+
+
+class ScriptHinted(Script):
+    """Flushes into a folder that is opened by hints."""
+
+    name = "script-hinted"
+
+    def make_base(self):
+        base = super().make_base()
+        self.must(["hint", base])
+        return base
+
+
+class CompactHinted(Compact):
+    """A folder whose logs have hints, which go with them."""
+
+    name = "compact-hinted"
+
+    def make_base(self):
+        base = super().make_base()
+        self.must(["hint", base])
+        return base
+
+
 class Load(Case):
     name = command = "load"
     only = False
@@ -360,5 +410,6 @@ def reads():
 
 
 CASES = [
-    Script, ScriptNew, ScriptJob, Compact, CompactKept, CompactFile, CompactIndex, Seal, Cut, CutBad, Load, *reads(),
+    Script, ScriptNew, ScriptHinted, ScriptJob, Compact, CompactKept, CompactFile, CompactHinted, CompactIndex, Seal, Cut, CutBad,
+    Hint, Load, *reads(),
 ]  # fmt: skip

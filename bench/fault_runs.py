@@ -32,9 +32,22 @@ WRITING = "open,write,sync,remove,rename,cut,make,mode"
 READING = ("open", "read", "stat", "list")
 # A fault that the caller need not hear of: a call that goes on, or that is tried again.
 UNSEEN = ("short", "EINTR")
-# What the program may pass over: the number in the lock file is a hint, a file system need not lock directories, and a file
-# that sets a log aside is removed by the next writer.
-HINTS = re.compile(r"(write|cut) .*/writer\.lock|lock .*/logs|remove .*\.unsynced")
+# What the program may pass over: the number in the lock file tells who writes and no more, a file system need not lock
+# directories, a file that sets a log aside is removed by the next writer, and a hint that is left without its log by the next
+# `hint`, as one that was not written to its end.
+PASSED_OVER = re.compile(r"(write|cut) .*/writer\.lock|lock .*/logs|remove .*\.(unsynced|hint|hint\.new)")
+
+
+# What a program says of a hint that it could not read, before it reads the log.
+HINT_NOTE = re.compile(r"note hint not used: log \d+: .*\n")
+
+
+def without_hint_notes(told, hits):
+    """What a program said but of hints, if each call that failed was on one, and whether it said something of them."""
+    if not all(hit.endswith(".hint") for hit in hits):
+        return told, False
+    left = HINT_NOTE.sub("", told)
+    return left, left != told
 
 
 class Ran:

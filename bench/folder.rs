@@ -1,12 +1,16 @@
 //! The work of `bk_bench folder` in plain Rust, with maps, lists and files of the standard library and nothing proved.
 //!
 //! Words and lines are those of bk_bench behind `folder`: `fill DIR LENGTH BATCH PUBLISHES LIMIT`, `open DIR`,
-//! `compact DIR`. It asks of the system what the store asks: a write for each record, a sync for each publish, reads of the
-//! same windows. The logs that it writes are the store's, byte for byte.
+//! `compact DIR`; and those of bk_bench_openings: `seal` with the words of `fill`, `scanned DIR`, `hinted DIR`. It asks of the
+//! system what the store asks: a write for each record, a sync for each publish and for each log of an opening, reads of the
+//! same windows. The logs that it writes are the store's, byte for byte. `sorted DIR` is `hinted`, but the map of all keys is
+//! made at once, of a sorted list.
 
 mod digest;
+mod hints;
 
 use digest::sha256;
+use hints::Hint;
 use std::collections::{BTreeMap, BTreeSet};
 use std::fs::{self, File, OpenOptions};
 use std::hint::black_box;
@@ -26,6 +30,16 @@ const FIRST: u64 = 512;
 const HEAD: u64 = 20;
 /// How many bytes of a record are read at once, where its length is not known.
 const FRAME: u64 = 256;
+
+/// How a log is read at an opening.
+#[derive(Clone, Copy, PartialEq)]
+enum By {
+    Scan,
+    /// By its hint; each key is inserted into the map.
+    Hint,
+    /// By its hint; the map is made of all keys at once.
+    SortedHints,
+}
 
 /// Ledger and entry.
 type Key = (u64, u64);
@@ -153,7 +167,7 @@ fn view_of(folder: &Path, number: u32) -> io::Result<(Rc<File>, u64)> {
 }
 
 impl Store {
-    fn open(folder: &Path, limit: u64, dead: BTreeSet<u64>) -> io::Result<Store> {
+    fn open(folder: &Path, limit: u64, dead: BTreeSet<u64>, by: By) -> io::Result<Store> {
         let mut store = Store {
             folder: folder.to_path_buf(),
             limit,
@@ -175,9 +189,16 @@ impl Store {
             }
         }
         numbers.sort();
+        let mut listed = Vec::new();
         for number in numbers {
-            let log = store.take_in(number)?;
+            let log = match by {
+                By::Scan => store.take_in(number)?,
+                _ => store.take_in_hint(number, by, &mut listed)?,
+            };
             store.logs.insert(number, log);
+        }
+        if by == By::SortedHints {
+            store.index = listed.into_iter().collect();
         }
         for (log, _) in store.index.values() {
             store.logs.get_mut(log).unwrap().named += 1;
@@ -188,6 +209,7 @@ impl Store {
     /// Reads a log: its header, and its records once.
     fn take_in(&mut self, number: u32) -> io::Result<Log> {
         let (view, length) = view_of(&self.folder, number)?;
+        view.sync_all()?;
         let mut first = header();
         view.read_exact_at(&mut first, 0)?;
         assert!(first.starts_with(b"BKLO"));
@@ -203,6 +225,44 @@ impl Store {
             view: Some(view),
             length,
             sizes,
+            named: 0,
+        })
+    }
+
+    /// Reads the hint of a log, its header and its ledgers map. Inserts the keys into the index, or adds them to a list.
+    fn take_in_hint(
+        &mut self,
+        number: u32,
+        by: By,
+        listed: &mut Vec<(Key, Place)>,
+    ) -> io::Result<Log> {
+        let (view, length) = view_of(&self.folder, number)?;
+        view.sync_all()?;
+        let bytes = fs::read(path_of(&self.folder, number).with_extension("hint"))?;
+        let mut first = header();
+        view.read_exact_at(&mut first, 0)?;
+        let place = u64::from_be_bytes(first[8..16].try_into().unwrap());
+        let mut map = vec![0; (length - place) as usize];
+        view.read_exact_at(&mut map, place)?;
+        let hint = Hint::new(&bytes).expect("a hint");
+        let sizes = hint.sizes(number, length, &first, &map);
+        for run in hint.runs().flatten() {
+            if self.dead.contains(&run.key.0) {
+                continue;
+            }
+            let keys = (0..run.count).map(|nth| {
+                let at = run.at + nth * run.size;
+                ((run.key.0, run.key.1 + nth), (number, at as u32))
+            });
+            match by {
+                By::SortedHints => listed.extend(keys),
+                _ => self.index.extend(keys),
+            }
+        }
+        Ok(Log {
+            view: Some(view),
+            length,
+            sizes: sizes.expect("the hint of this log"),
             named: 0,
         })
     }
@@ -506,7 +566,7 @@ fn digest(payloads: &[Vec<u8>]) -> u64 {
 }
 
 fn fill(folder: &Path, length: usize, batch: u64, publishes: u64, limit: u64) -> io::Result<()> {
-    let mut store = Store::open(folder, limit, BTreeSet::new())?;
+    let mut store = Store::open(folder, limit, BTreeSet::new(), By::Scan)?;
     let mut times = [0; 4];
     let (mut sum, mut added) = (0, 0);
     for number in 0..publishes {
@@ -544,13 +604,40 @@ fn fill(folder: &Path, length: usize, batch: u64, publishes: u64, limit: u64) ->
     Ok(())
 }
 
+/// Flushes entries to logs that are all sealed.
+fn seal(folder: &Path, length: usize, batch: u64, publishes: u64, limit: u64) -> io::Result<()> {
+    let mut store = Store::open(folder, limit, BTreeSet::new(), By::Scan)?;
+    let begun = Instant::now();
+    for number in 0..publishes {
+        for it in number * batch..(number + 1) * batch {
+            store.add(&payload_of(key_at(it), length));
+        }
+        store.write_flush()?;
+        store.publish()?;
+    }
+    if let Some(writing) = store.writing.take() {
+        writing.seal(folder)?;
+    }
+    tell("seal", batch * publishes, begun);
+    Ok(())
+}
+
 fn open(folder: &Path) -> io::Result<()> {
     let begun = Instant::now();
-    let mut store = Store::open(folder, 0, BTreeSet::new())?;
+    let mut store = Store::open(folder, 0, BTreeSet::new(), By::Scan)?;
     tell("open", store.index.len() as u64, begun);
     let begun = Instant::now();
     let deleted = tenths().map(|ledger| store.delete(ledger)).sum();
     tell("delete", deleted, begun);
+    Ok(())
+}
+
+/// Opens and does nothing more, not even free what it holds.
+fn open_alone(folder: &Path, by: By) -> io::Result<()> {
+    let begun = Instant::now();
+    let store = Store::open(folder, 0, BTreeSet::new(), by)?;
+    tell("open", store.index.len() as u64, begun);
+    std::mem::forget(store);
     Ok(())
 }
 
@@ -560,7 +647,7 @@ fn tenths() -> impl Iterator<Item = u64> {
 }
 
 fn compact(folder: &Path) -> io::Result<()> {
-    let mut store = Store::open(folder, 0, tenths().collect())?;
+    let mut store = Store::open(folder, 0, tenths().collect(), By::Scan)?;
     let begun = Instant::now();
     let moved = store.compact()?;
     tell("compact", moved, begun);
@@ -579,8 +666,20 @@ fn main() -> io::Result<()> {
             number(publishes),
             number(limit),
         ),
+        ["seal", folder, length, batch, publishes, limit] => seal(
+            Path::new(folder),
+            number(length) as usize,
+            number(batch),
+            number(publishes),
+            number(limit),
+        ),
         ["open", folder] => open(Path::new(folder)),
+        ["scanned", folder] => open_alone(Path::new(folder), By::Scan),
+        ["hinted", folder] => open_alone(Path::new(folder), By::Hint),
+        ["sorted", folder] => open_alone(Path::new(folder), By::SortedHints),
         ["compact", folder] => compact(Path::new(folder)),
-        _ => panic!("fill DIR LENGTH BATCH PUBLISHES LIMIT, open DIR, or compact DIR"),
+        _ => panic!(
+            "fill DIR LENGTH BATCH PUBLISHES LIMIT, open, scanned, hinted, sorted or compact DIR"
+        ),
     }
 }

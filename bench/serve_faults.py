@@ -3,7 +3,7 @@
 The session publishes entries, deletes and fences ledgers and stores master keys, and goes on after each refusal. Later
 sessions, on the files as they are and on what a power loss would leave, have to find what was answered: entries that were
 published after a refused deletion too, and no entry of a ledger whose deletion was answered. After a `close` that was refused
-the exit status has to be 1.
+the exit status has to be 1. A log is sealed before the session and one in it, so calls on their hints fail too.
 """
 
 import os
@@ -133,6 +133,7 @@ def run_steps(session, known):
     for ledger in (1, 2, 3, 4):
         add(session, known, ledger, 10)
     flush(session, known)
+    answer_of(session.seal)
     for ledger in (1, 2):
         delete(session, known, ledger)
         add(session, known, ledger, 11)
@@ -169,6 +170,9 @@ class Server:
                 for entry in range(3):
                     add(session, known, ledger, entry)
             flush(session, known)
+            session.seal()
+        if not list(self.base.glob("*.hint")):
+            raise RuntimeError("the sealed log has no hint")
         self.entries = known.must
 
     def run(self, fault):

@@ -24,7 +24,7 @@ use Rattle.clap.proofs.OnLiterals.{clap_on_literals}
 use Rattle.clap.proofs.WalkLemmas.{first_value-rows, raw_values-rows}
 use Rattle.bk_store.specs.declared.settings.Settings.{Settings}
 use Rattle.bk_cli.specs.declared.script.ScriptCall.{ScriptCall}
-use Rattle.bk_cli.specs.CommandLine.{program, last_ledger, Asks, AsksFlag, AsksLedgers, AsksNoManifest, AsksSettings, IsNumberIn}
+use Rattle.bk_cli.specs.CommandLine.{program, last_ledger, Asks, AsksFlag, AsksLedgers, AsksNoHints, AsksNoManifest, AsksSettings, IsNumberIn}
 
 -- a word is at most one number
 pub same_number : (word : Text) (m n : ℕ) → m < 2 ^ 64 → n < 2 ^ 64 → word ≡ decimal m → word ≡ decimal n → m ≡ n
@@ -160,6 +160,11 @@ module _ (words : List Text) (rows : List Row) (called : subcommand_of program w
       → IfOk result (λ call. AsksNoManifest words call.no_manifest)
   unrecorded_by (Ok call) asked = record { rows = rows; called = called; asked = asked }
   unrecorded_by (Err error) asked = tt
+
+  pub unhinted_by : (result : Result ScriptCall Error) → IfOk result (λ call. AsksFlag (one_of (codes "no-hints") rows) call.no_hints)
+      → IfOk result (λ call. AsksNoHints words call.no_hints)
+  unhinted_by (Ok call) asked = record { rows = rows; called = called; asked = asked }
+  unhinted_by (Err error) asked = tt
 
   pub refused_by : (result : Result ScriptCall Error)
       → IfErr result (λ error. (settings : Settings) (dead : List ℕ) → AsksSettings rows settings → AsksLedgers (all_of (codes "LEDGER") rows) dead

@@ -24,10 +24,10 @@ words_rule name = record (new_rule name) { action = Some Append; value_names = 1
 
 -- the command `script`, with its options and operands
 abbrev pub script : App
-script = with_rule (with_rule (with_rule (with_rule (with_rule (with_rule (with_rule (with_rule (with_rule (with_rule (new_app (codes "script"))
+script = with_rule (with_rule (with_rule (with_rule (with_rule (with_rule (with_rule (with_rule (with_rule (with_rule (with_rule (new_app (codes "script"))
     (option_rule (codes "log-limit"))) (option_rule (codes "cache-limit"))) (option_rule (codes "recent"))) (option_rule (codes "slots")))
     (option_rule (codes "leases"))) (option_rule (codes "minor"))) (option_rule (codes "major"))) (option_rule (codes "folder")))
-    (flag_rule (codes "no-manifest"))) (words_rule (codes "LEDGER"))
+    (flag_rule (codes "no-manifest"))) (flag_rule (codes "no-hints"))) (words_rule (codes "LEDGER"))
 
 -- the program, which is called with a command
 abbrev pub program : App
@@ -82,3 +82,9 @@ pub record AsksNoManifest (words : List Text) (no_manifest : Bool) : Type 0 wher
   pub rows : List Row
   pub called : subcommand_of program words ≡ Some (codes "script", rows)
   pub asked : AsksFlag (one_of (codes "no-manifest") rows) no_manifest
+
+-- The words call `script`, with or without the hints of the directory.
+pub record AsksNoHints (words : List Text) (no_hints : Bool) : Type 0 where
+  pub rows : List Row
+  pub called : subcommand_of program words ≡ Some (codes "script", rows)
+  pub asked : AsksFlag (one_of (codes "no-hints") rows) no_hints

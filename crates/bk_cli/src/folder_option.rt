@@ -1,4 +1,5 @@
-//! The options of `script` for a directory: its path, and whether its manifests are left alone.
+//! The options of `script` for a directory: its path, whether its manifests are left alone, and whether
+//! hints are used.
 
 ghost use Rattle.std.specs.Prelude.{◌≡◌, false, codes, option_map};
 ghost use Rattle.clap.specs.Matches.{found_of};
@@ -50,4 +51,25 @@ pub(crate) fn read_no_manifest(matches: &ArgMatches<'_>) -> bool
     ensures { AsksFlag (one_of (codes "no-manifest") (rows_of (found_of matches.now))) result }
 {
     matches.get_flag("no-manifest")
+}
+
+/// The name of the option for hints, without the two dashes.
+pub(crate) const NO_HINTS: &str = "no-hints";
+
+/// Returns the option for hints.
+pub(crate) fn no_hints_arg<'a>(alloc: Global) -> Arg<'a>
+    ensures rule { rule_of result ≡ flag_rule (codes "no-hints") }
+    ensures local { result.global ≡ false }
+{
+    Arg::new(alloc, "no-hints")
+        .long("no-hints")
+        .action(ArgAction::SetTrue)
+        .help("Use no hint, and read the records of each log")
+}
+
+/// Returns whether no hint is used.
+pub(crate) fn read_no_hints(matches: &ArgMatches<'_>) -> bool
+    ensures { AsksFlag (one_of (codes "no-hints") (rows_of (found_of matches.now))) result }
+{
+    matches.get_flag("no-hints")
 }

@@ -183,6 +183,10 @@ When DIR is opened, what a log has behind them is not read, whatever a power los
 LOG: ..` names the place. It stays in the file. If durable bytes of a log are missing, DIR is not opened,
 and nothing is changed. With --no-manifest neither file is read or written.
 
+A sealed log of DIR that has a hint (`bookie hint`) is opened by it and not read. A hint that may not be
+used is noted on the error stream, `note hint not used: log ID: REASON`, and the log is read. With
+--no-hints none is used.
+
 Exit status:
   0  every step was answered
   1  a read fails, the input has more than 16777216 bytes or takes more than 1048576 reads, or a line

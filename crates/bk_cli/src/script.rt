@@ -7,10 +7,11 @@ ghost use Rattle.clap.specs.Values.{kind_of};
 ghost use Rattle.clap.specs.Walk.{Text, all_of, first_of, one_of, rows_of};
 ghost use Rattle.bk_store.specs.Limits.{IsAllowed};
 ghost use Rattle.bk_store.specs.declared.settings.Settings.{Settings};
-ghost use Rattle.bk_cli.specs.CommandLine.{program, Asks, AsksFlag, AsksLedgers, AsksNoManifest, AsksSettings};
+ghost use Rattle.bk_cli.specs.CommandLine.{program, Asks, AsksFlag, AsksLedgers, AsksNoHints, AsksNoManifest, AsksSettings};
 
 use crate::folder_option::{
-    FOLDER, NO_MANIFEST, folder_arg, no_manifest_arg, read_folder, read_no_manifest,
+    FOLDER, NO_HINTS, NO_MANIFEST, folder_arg, no_hints_arg, no_manifest_arg, read_folder,
+    read_no_hints, read_no_manifest,
 };
 use crate::help::{ABOUT_SCRIPT, PROGRAM_HELP, SCRIPT_HELP};
 use crate::ledgers::{ledgers_arg, read_ledgers};
@@ -33,6 +34,8 @@ pub struct ScriptCall<'a> {
     pub folder: Option<&'a str>,
     /// Whether the manifests of the directory are neither read nor written.
     pub no_manifest: bool,
+    /// Whether no hint of the directory is used.
+    pub no_hints: bool,
     /// The ledgers deleted earlier, in the order of the words, each 0 to 9223372036854775807.
     pub dead: Vec<u64>,
 }
@@ -118,6 +121,7 @@ pub fn script_call<'a, S: AsStr>(alloc: Global, words: &'a [S]) -> Result<Script
     ensures asked { IfOk result (λ call. Asks (map S.text words.now) (option_map (λ path. path.now) call.folder) call.settings
         call.dead.items) }
     ensures unrecorded { IfOk result (λ call. AsksNoManifest (map S.text words.now) call.no_manifest) }
+    ensures unhinted { IfOk result (λ call. AsksNoHints (map S.text words.now) call.no_hints) }
     ensures refused { IfErr result (λ error. (folder : Option Text) (settings : Settings) (dead : List ℕ)
         → Asks (map S.text words.now) folder settings dead → kind_of error ≡ ErrorKind.OutOfMemory) }
 {
@@ -142,6 +146,7 @@ fn read_script<'a>(alloc: Global, script: &ArgMatches<'a>) -> Result<ScriptCall<
     ensures asked { IfOk result (λ call. AsksSettings (rows_of (found_of script.now)) call.settings) }
     ensures over { IfOk result (λ call. first_of (codes "folder") (rows_of (found_of script.now)) ≡ option_map (λ path. path.now) call.folder) }
     ensures unrecorded { IfOk result (λ call. AsksFlag (one_of (codes "no-manifest") (rows_of (found_of script.now))) call.no_manifest) }
+    ensures unhinted { IfOk result (λ call. AsksFlag (one_of (codes "no-hints") (rows_of (found_of script.now))) call.no_hints) }
     ensures ledgers { IfOk result (λ call. AsksLedgers (all_of (codes "LEDGER") (rows_of (found_of script.now))) call.dead.items) }
     ensures refused { IfErr result (λ error. (settings : Settings) (dead : List ℕ) → AsksSettings (rows_of (found_of script.now)) settings
         → AsksLedgers (all_of (codes "LEDGER") (rows_of (found_of script.now))) dead → kind_of error ≡ ErrorKind.OutOfMemory) }
@@ -155,6 +160,7 @@ fn read_script<'a>(alloc: Global, script: &ArgMatches<'a>) -> Result<ScriptCall<
             settings,
             folder: read_folder(script),
             no_manifest: read_no_manifest(script),
+            no_hints: read_no_hints(script),
             dead,
         }),
         Err(bad) => Err(bad_script(alloc, &bad)?),
@@ -229,7 +235,7 @@ fn near_option(alloc: Global, word: &str) -> Result<Option<&'static str>, AllocE
     for name in numbers
         .iter()
         .map(|option| option.name)
-        .chain([FOLDER, NO_MANIFEST])
+        .chain([FOLDER, NO_MANIFEST, NO_HINTS])
     {
         if osa_distance(alloc, word.trim_start_matches('-'), name)? <= 1 {
             return Ok(Some(name));
@@ -264,6 +270,7 @@ fn command<'a>(alloc: Global) -> Result<Command<'a>, AllocError>
         .arg(MAJOR.arg(alloc))?
         .arg(folder_arg(alloc))?
         .arg(no_manifest_arg(alloc))?
+        .arg(no_hints_arg(alloc))?
         .arg(ledgers_arg(alloc))?;
     Command::new(alloc, "bookie")
         .bin_name("bookie")?

@@ -261,6 +261,20 @@ pub const NO_MANIFEST: Word = Word {
     ..OPTION
 };
 
+/// Whether no hint is used.
+pub const NO_HINTS: Word = Word {
+    name: "no-hints",
+    help: "Use no hint, and read the records of each log",
+    ..OPTION
+};
+
+/// Whether hints are only compared with their logs.
+pub const CHECK_HINTS: Word = Word {
+    name: "check",
+    help: "Compare the hints with their logs, and write nothing",
+    ..OPTION
+};
+
 /// Whether the operator rebuilds the bookie's index.
 pub const INDEX_IS_REBUILT: Word = Word {
     name: "index-is-rebuilt",

@@ -2,16 +2,18 @@
 
 ghost use Rattle.std.specs.Prelude.{◌≤◌};
 
+use crate::hint::run_hint;
 use crate::program::{StartFault, tell_fault};
 use bk_cli::words::{
-    DATA, DIGEST, ENTRY, FILE, FIRST, FROM, LAST, LEDGER, LONG, NO_MANIFEST, OF_LEDGER, QUICK, RAW,
+    DATA, DIGEST, ENTRY, FILE, FIRST, FROM, LAST, LEDGER, LONG, NO_HINTS, NO_MANIFEST, OF_LEDGER,
+    QUICK, RAW,
 };
 use bk_cli::{DEFAULTS, FolderCall};
 use bk_compact_folder::{CompactAsk, run_compact};
 use bk_deleted::{Deleted, DeletedAsk, deleted_in, note_deleted};
 use bk_import_seal::{run_import, run_seal};
 use bk_inspect::{
-    DataForm, Digest, DigestChoice, DirCommand, Ends, EntryRange, FolderCommand, ScanChoice,
+    DataForm, Digest, DigestChoice, DirCommand, Ends, EntryRange, FolderCommand, Hints, ScanChoice,
     run_folder_as,
 };
 use bk_manifest_command::run_manifest;
@@ -33,7 +35,10 @@ pub(crate) fn run_call<W: Write, E: Write>(
     if let Some(command) = dir_command(call) {
         let command = FolderCommand::Dir(command);
         let ends = ends_of(call);
-        return run_folder_as(rt, call.form, call.path, ends, &command, writer, errors);
+        let hints = hints_of(call);
+        return run_folder_as(
+            rt, call.form, call.path, ends, hints, &command, writer, errors,
+        );
     }
     match call.name() {
         "stat" => run_stat(rt, call, writer, errors),
@@ -42,6 +47,7 @@ pub(crate) fn run_call<W: Write, E: Write>(
         "report" => run_report(rt, call, writer, errors),
         "seal" => run_seal(rt, call, writer, errors),
         "compact" => run_compaction(rt, call, writer, errors),
+        "hint" => run_hint(rt, call, writer, errors),
         "manifest" => run_manifest(rt, call, writer, errors),
         _ => without_function(call, errors),
     }
@@ -53,6 +59,15 @@ fn ends_of(call: &FolderCall<'_>) -> Ends {
         Ends::Files
     } else {
         Ends::Durable
+    }
+}
+
+/// Returns whether hints are used. A command without the option uses none, whatever this is.
+fn hints_of(call: &FolderCall<'_>) -> Hints {
+    if call.has(&NO_HINTS) {
+        Hints::Ignored
+    } else {
+        Hints::Used
     }
 }
 
@@ -148,8 +163,10 @@ fn run_stat<W: Write, E: Write>(
     match deleted_by(rt, call, errors) {
         Ok(deleted) => {
             let command = FolderCommand::Stat(&deleted.all);
-            let ends = ends_of(call);
-            run_folder_as(rt, call.form, call.path, ends, &command, writer, errors)
+            let (ends, hints) = (ends_of(call), hints_of(call));
+            run_folder_as(
+                rt, call.form, call.path, ends, hints, &command, writer, errors,
+            )
         }
         Err(fault) => {
             tell_dead(rt.alloc(), call.form, fault, errors);
@@ -170,8 +187,10 @@ fn run_export<W: Write, E: Write>(
     match range_of(call) {
         Some(range) => {
             let command = FolderCommand::Export(range, data_form_of(call));
-            let ends = ends_of(call);
-            run_folder_as(rt, call.form, call.path, ends, &command, writer, errors)
+            let (ends, hints) = (ends_of(call), hints_of(call));
+            run_folder_as(
+                rt, call.form, call.path, ends, hints, &command, writer, errors,
+            )
         }
         None => without_function(call, errors),
     }
@@ -221,7 +240,18 @@ fn run_import_of<W: Write, E: Write>(
         Ok(deleted) => {
             let no_manifest = call.has(&NO_MANIFEST);
             let (form, path) = (call.form, call.path);
-            run_import(rt, form, path, file, &deleted, no_manifest, writer, errors)
+            let hints = hints_of(call);
+            run_import(
+                rt,
+                form,
+                path,
+                file,
+                &deleted,
+                no_manifest,
+                hints,
+                writer,
+                errors,
+            )
         }
         Err(fault) => {
             tell_dead(rt.alloc(), call.form, fault, errors);

@@ -2,6 +2,7 @@
 #![tactic(auto)]
 
 mod commands;
+mod hint;
 mod program;
 mod script;
 
@@ -14,8 +15,9 @@ pub use bk_compact_disk::compact_disk;
 pub use bk_compact_folder::CompactAsk;
 pub use bk_deleted::DeletedAsk;
 pub use bk_folder::{
-    Book, Ignored, Opened, Opening, OpeningDisk, OpeningFault, OpeningView, open_or_make,
+    Book, Ignored, Notes, Opened, Opening, OpeningDisk, OpeningFault, OpeningView, open_or_make,
 };
+pub use bk_inspect::Hints;
 pub use bk_messages::{BookFault, FailedCalls, LogsFault};
 pub use commands::dir_command;
 pub use program::{StartFault, run_words, tell, tell_fault, tell_reading, words_of};

@@ -7,7 +7,7 @@ ghost use Rattle.bk_commands.specs.Folder.{RunsOverFolder};
 use bk_cli::ScriptCall;
 use bk_disk::MemDisk;
 use bk_folder::{Opening, OpeningDisk, OpeningFault, open_or_make};
-use bk_inspect::Form;
+use bk_inspect::{Form, Hints};
 use bk_ledgers::Listed;
 use bk_messages::WayOn;
 use bk_script::{RunFault, ScriptFault, run_on};
@@ -40,8 +40,8 @@ pub(crate) fn run_in_memory<R: Read, W: Write, E: Write>(
 /// Runs the script of a reader on the directory at a path, as its one writer. Returns the status,
 /// as `run_in_memory` does; also 1 if the directory cannot be written, with `fault TEXT` on the
 /// error stream, which names the file, or the process that writes there. If no store is opened and
-/// there is a way on, another line names it (`WayOn`). Each call of the system that failed has a
-/// line on the error stream (`FailedCalls`), also if the status is 0.
+/// there is a way on, another line names it (`WayOn`). Each hint that is not used and each call of the
+/// system that failed has a line on the error stream (`Notes`), also if the status is 0.
 pub(crate) fn run_over_folder<R: Read, W: Write, E: Write>(
     rt: &HostRuntime,
     path: &str,
@@ -54,7 +54,12 @@ pub(crate) fn run_over_folder<R: Read, W: Write, E: Write>(
     ensures done { result ≡ 0 → RunsOverFolder call.now.settings call.now.dead.items (R.remaining reader.old) (R.remaining reader.new)
         (W.contents writer.old) (W.contents writer.new) }
 {
-    let opened = match open_or_make(rt, path, call.no_manifest) {
+    let hints = if call.no_hints {
+        Hints::Ignored
+    } else {
+        Hints::Used
+    };
+    let opened = match open_or_make(rt, path, call.no_manifest, hints) {
         Ok(opened) => opened,
         Err(fault) => {
             tell_unopened(&fault, errors);
@@ -86,18 +91,18 @@ fn run_on_folder<R: Read, W: Write, E: Write>(
     ensures done { result ≡ 0 → RunsOverFolder call.now.settings call.now.dead.items (R.remaining reader.old) (R.remaining reader.new)
         (W.contents writer.old) (W.contents writer.new) }
 {
-    let Ok(failed) = disk.failed_calls() else {
+    let Ok(notes) = disk.notes(alloc) else {
         tell(&RunFault::Script(ScriptFault::Memory), errors);
         return 1;
     };
     match run_on(alloc, disk, call.settings, dead, reader, writer) {
         Ok(()) => {
-            failed.tell(Form::Text, errors);
+            notes.tell(Form::Text, errors);
             0
         }
         Err(fault) => {
             tell(&fault, errors);
-            failed.tell(Form::Text, errors);
+            notes.tell(Form::Text, errors);
             1
         }
     }

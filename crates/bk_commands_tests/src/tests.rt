@@ -5,6 +5,7 @@ mod disk;
 mod durable;
 mod faults;
 mod folder;
+mod hint;
 mod json;
 mod lacking;
 mod manifest;

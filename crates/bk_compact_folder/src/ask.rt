@@ -1,8 +1,9 @@
 //! What a call of `compact` asks for.
 
-use bk_cli::words::{BELOW, DRY_RUN, INDEX_IS_REBUILT, MINOR};
+use bk_cli::words::{BELOW, DRY_RUN, INDEX_IS_REBUILT, MINOR, NO_HINTS};
 use bk_cli::{DEFAULTS, FolderCall};
 use bk_deleted::DeletedAsk;
+use bk_inspect::Hints;
 use std::alloc::{AllocError, Global};
 
 /// What a call of `compact` asks for.
@@ -12,6 +13,8 @@ pub struct CompactAsk<'a> {
     pub below: u32,
     /// Which ledgers are deleted.
     pub deleted: DeletedAsk<'a>,
+    /// Whether hints are used.
+    pub hints: Hints,
     /// Whether the effect is shown only.
     pub is_dry: bool,
     /// Whether the operator rebuilds a bookie's index that is in the directory.
@@ -29,6 +32,11 @@ impl<'a> CompactAsk<'a> {
         Ok(CompactAsk {
             below,
             deleted: DeletedAsk::of(alloc, call)?,
+            hints: if call.has(&NO_HINTS) {
+                Hints::Ignored
+            } else {
+                Hints::Used
+            },
             is_dry: call.has(&DRY_RUN),
             index_is_rebuilt: call.has(&INDEX_IS_REBUILT),
         })

@@ -11,7 +11,8 @@ use bk_compact_disk::{Size, Summary, compact_and_show, lengths_of, write_summary
 use bk_deleted::{Deleted, deleted_in};
 use bk_disk::{DirDisk, FaultWatch};
 use bk_folder::{Book, FolderDisk, Ignored, OpeningDisk};
-use bk_inspect::{Form, unlisted};
+use bk_hint_folder::FolderHints;
+use bk_inspect::{Form, Hints, unlisted};
 use bk_messages::{CommandFault, FailedCalls, end_early, reason_of, write_row};
 use std::alloc::Global;
 use std::collections::BTreeMap;
@@ -52,10 +53,17 @@ fn compact_folder<W: Write, E: Write>(
     writer: &mut W,
     errors: &mut E,
 ) -> Result<(), CommandFault> {
-    if let Some(Work { disk, dead }) = find_work(rt, form, path, ask, watch, writer, errors)? {
-        compact_and_show(rt, form, disk, ask.below, &dead, writer)?;
+    let Some(work) = find_work(rt, form, path, ask, watch, writer, errors)? else {
+        return Ok(());
+    };
+    let Work { disk, dead } = work;
+    let notes = disk.notes(rt.alloc())?;
+    let done = compact_and_show(rt, form, disk, ask.below, &dead, writer);
+    notes.tell_unused(form, errors);
+    match done {
+        Ok(_) => Ok(()),
+        Err(fault) => Err(fault),
     }
-    Ok(())
 }
 
 /// A directory to be compacted, and the deleted ledgers.
@@ -168,17 +176,23 @@ fn open_work(
     let disk = DirDisk::open_to_write(rt, path)?;
     *watch = Some(disk.fault_watch(alloc)?);
     let failed = FailedCalls::on(alloc, &disk)?;
+    let hints = FolderHints::new(rt, path, ask.hints == Hints::Used)?;
     if ask.deleted.no_manifest {
-        return plain_work(alloc, disk, failed);
+        return plain_work(alloc, disk, hints, failed);
     }
-    kept_work(alloc, disk, failed)
+    kept_work(alloc, disk, hints, failed)
 }
 
 /// Opens a directory with its manifests.
-fn kept_work(alloc: Global, disk: DirDisk, failed: FailedCalls) -> Result<Opened, CommandFault> {
+fn kept_work(
+    alloc: Global,
+    disk: DirDisk,
+    hints: FolderHints,
+    failed: FailedCalls,
+) -> Result<Opened, CommandFault> {
     let mut disk = disk;
     let book = Book::open(alloc, &mut disk, &failed)?;
-    let (mut disk, ignored) = FolderDisk::kept(alloc, disk)?;
+    let (mut disk, ignored) = FolderDisk::kept(alloc, disk, hints)?;
     Ok(Opened {
         lengths: lengths_of(alloc, &mut disk)?,
         disk,
@@ -189,8 +203,13 @@ fn kept_work(alloc: Global, disk: DirDisk, failed: FailedCalls) -> Result<Opened
 }
 
 /// Opens a directory whose manifests are left alone.
-fn plain_work(alloc: Global, disk: DirDisk, failed: FailedCalls) -> Result<Opened, CommandFault> {
-    let mut disk = FolderDisk::plain(alloc, disk);
+fn plain_work(
+    alloc: Global,
+    disk: DirDisk,
+    hints: FolderHints,
+    failed: FailedCalls,
+) -> Result<Opened, CommandFault> {
+    let mut disk = FolderDisk::plain(alloc, disk, hints);
     Ok(Opened {
         lengths: lengths_of(alloc, &mut disk)?,
         disk,

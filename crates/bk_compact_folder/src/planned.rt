@@ -8,7 +8,8 @@ use bk_compact_disk::{Summary, lengths_of, plan_disk, size_of, write_summary};
 use bk_deleted::Deleted;
 use bk_disk::{DirDisk, LogDisk};
 use bk_folder::{FolderDisk, OpeningDisk};
-use bk_inspect::{Ends, Form, tell_ignored};
+use bk_hint_folder::FolderHints;
+use bk_inspect::{Ends, Form, Hints, tell_ignored};
 use bk_manifest_disk::{Limited, limit_logs, read_logs};
 use bk_messages::{CommandFault, FailedCalls, write_row};
 use bk_offline_gc::{Fate, Planned, SweepFault};
@@ -35,7 +36,8 @@ pub(crate) fn show_dry<W: Write, E: Write>(
     let failed = FailedCalls::on(rt.alloc(), &disk)?;
     let disk = read_only(rt, form, path, disk, ask, errors)?;
     let disk = OpeningDisk::new(rt, disk, failed);
-    let summary = show_logs(
+    let notes = disk.notes(rt.alloc())?;
+    let shown = show_logs(
         rt,
         form,
         path,
@@ -44,7 +46,9 @@ pub(crate) fn show_dry<W: Write, E: Write>(
         &deleted.all,
         writer,
         errors,
-    )?;
+    );
+    notes.tell_unused(form, errors);
+    let summary = shown?;
     let ends = ask.deleted.ends();
     show_named(rt, form, path, ends, &deleted.named, writer, errors)?;
     Ok(write_summary(rt.alloc(), form, &summary, writer)?)
@@ -61,13 +65,14 @@ fn read_only<E: Write>(
     errors: &mut E,
 ) -> Result<FolderDisk, CommandFault> {
     let alloc = rt.alloc();
+    let hints = FolderHints::new(rt, path, ask.hints == Hints::Used)?;
     if ask.deleted.ends() == Ends::Files {
-        return Ok(FolderDisk::plain(alloc, disk));
+        return Ok(FolderDisk::plain(alloc, disk, hints));
     }
     let state = read_logs(rt, path)?;
     let Limited { disk, reports, .. } = limit_logs(alloc, disk, &state)?;
     tell_ignored(alloc, form, &reports, errors);
-    Ok(FolderDisk::Plain(disk))
+    Ok(FolderDisk::limited(alloc, disk, hints))
 }
 
 /// Writes a line for each log that a compaction would take, and reports those that it would keep

@@ -5,7 +5,8 @@ use crate::folder_disk::FolderDisk;
 use crate::ignored::Ignored;
 use crate::opening::OpeningDisk;
 use bk_disk::{DirDisk, FaultWatch, FileFault, FolderFault};
-use bk_inspect::{Form, unlisted};
+use bk_hint_folder::FolderHints;
+use bk_inspect::{Form, Hints, unlisted};
 use bk_manifest::ManifestError;
 use bk_messages::{BookFault, FailedCalls, LogsFault, WayOn};
 use std::alloc::{AllocError, Global};
@@ -75,8 +76,9 @@ impl Opening {
 
 /// Opens the directory at a path to be written, as its one writer until its disk is dropped, with the
 /// manifests of its logs and ledgers. All are created if nothing is there and the parent exists. With
-/// `no_manifest` neither manifest is read or written, and the logs are read to their ends. The disk
-/// shows the progress of an opening (`OpeningDisk`).
+/// `no_manifest` neither manifest is read or written, and the logs are read to their ends. If hints
+/// are used, the records of a sealed log that has one are not read. The disk shows the progress of an
+/// opening (`OpeningDisk`).
 ///
 /// # Errors
 ///
@@ -90,24 +92,27 @@ pub fn open_or_make(
     rt: &HostRuntime,
     path: &str,
     no_manifest: bool,
+    hints: Hints,
 ) -> Result<Opening, OpeningFault> {
     let alloc = rt.alloc();
     let disk = dir_disk(rt, path)?;
     let failed = FailedCalls::on(alloc, &disk)?;
+    let hints = FolderHints::new(rt, path, hints == Hints::Used)?;
     if no_manifest {
         return Ok(Opening {
-            disk: OpeningDisk::new(rt, FolderDisk::plain(alloc, disk), failed),
+            disk: OpeningDisk::new(rt, FolderDisk::plain(alloc, disk, hints), failed),
             book: Book::closed(alloc),
             ignored: Ignored::none(alloc),
         });
     }
-    open_recorded(rt, disk, failed)
+    open_recorded(rt, disk, hints, failed)
 }
 
 /// Opens a directory with its manifests.
 fn open_recorded(
     rt: &HostRuntime,
     disk: DirDisk,
+    hints: FolderHints,
     failed: FailedCalls,
 ) -> Result<Opening, OpeningFault> {
     let alloc = rt.alloc();
@@ -117,7 +122,7 @@ fn open_recorded(
         Ok(book) => book,
         Err(fault) => return Err(of_book(alloc, fault, &watch)?),
     };
-    match FolderDisk::kept(alloc, disk) {
+    match FolderDisk::kept(alloc, disk, hints) {
         Ok((disk, ignored)) => Ok(Opening {
             disk: OpeningDisk::new(rt, disk, failed),
             book,

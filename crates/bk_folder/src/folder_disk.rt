@@ -1,4 +1,4 @@
-//! The disk of a directory, with or without a manifest of its logs.
+//! The disk of a directory, with or without a manifest of its logs, and with its hints.
 
 ghost use Rattle.std.specs.Prelude.{[], false};
 ghost use Rattle.std.specs.FinMap as map;
@@ -6,27 +6,41 @@ ghost use Rattle.bk_folder.specs.Failures.{failures_of};
 
 use crate::ignored::Ignored;
 use bk_disk::{DirDisk, DirView, DiskFault, LogDisk, LogView};
+use bk_hint_disk::{HintedDisk, UnusedWatch};
+use bk_hint_folder::FolderHints;
+use bk_hint_view::HintedView;
 use bk_manifest_disk as manifest;
 use bk_manifest_disk::{KeptDisk, KeptFile, LimitedDisk, LimitedView, open_logs};
-use std::alloc::Global;
+use std::alloc::{AllocError, Global};
 use std::collections::BTreeMap;
 
 /// The disk of a directory with the manifest of its logs.
 pub type LogsDisk = KeptDisk<LimitedDisk<DirDisk>, KeptFile>;
 
-/// The disk of a directory. It is not honest, as a `DirDisk`.
+/// The disk of a directory, with its hints: the first view of a log after a `list` lends what its hint
+/// lists, if hints are used and this one may be. The hint of a log that is made or removed is dropped.
+/// The disk is not honest, as a `DirDisk`.
+///
+/// A hint is compared with the bytes that are shown of its log, so hints are used with a manifest and
+/// without one.
 #[derive(Drop)]
 pub enum FolderDisk {
-    /// Its logs are read to their ends, and nothing is recorded.
-    Plain(LimitedDisk<DirDisk>),
+    /// Its logs are read to their ends, or to limits, and nothing is recorded.
+    Plain(HintedDisk<LimitedDisk<DirDisk>, FolderHints>),
     /// Its logs are read up to what their manifest records as durable.
-    Kept(LogsDisk),
+    Kept(HintedDisk<LogsDisk, FolderHints>),
 }
 
 impl FolderDisk {
     /// Returns the disk of a directory whose manifest of logs is left alone.
-    pub fn plain(alloc: Global, disk: DirDisk) -> FolderDisk {
-        FolderDisk::Plain(LimitedDisk::new(disk, BTreeMap::new(alloc)))
+    pub fn plain(alloc: Global, disk: DirDisk, hints: FolderHints) -> FolderDisk {
+        FolderDisk::limited(alloc, LimitedDisk::new(disk, BTreeMap::new(alloc)), hints)
+    }
+
+    /// Returns the disk of a directory whose logs are read up to these limits, and whose manifest of
+    /// logs is not written.
+    pub fn limited(alloc: Global, disk: LimitedDisk<DirDisk>, hints: FolderHints) -> FolderDisk {
+        FolderDisk::Plain(HintedDisk::new(alloc, disk, hints))
     }
 
     /// Opens the logs of a directory to be written by their manifest, which is made if there is none.
@@ -35,16 +49,36 @@ impl FolderDisk {
     /// # Errors
     ///
     /// Those of `open_logs`. No log is changed.
-    pub fn kept(alloc: Global, disk: DirDisk) -> Result<(FolderDisk, Ignored), manifest::Fault> {
+    pub fn kept(
+        alloc: Global,
+        disk: DirDisk,
+        hints: FolderHints,
+    ) -> Result<(FolderDisk, Ignored), manifest::Fault> {
         let (disk, ignored) = Ignored::split(alloc, open_logs(alloc, disk)?);
+        let disk = HintedDisk::new(alloc, disk, hints);
         Ok((FolderDisk::Kept(disk), ignored))
+    }
+
+    /// Returns a watch of the hints that are not used. Fails if memory for it is refused.
+    pub fn unused_watch(&self, alloc: Global) -> Result<UnusedWatch, AllocError> {
+        match self {
+            FolderDisk::Plain(disk) => disk.unused_watch(alloc),
+            FolderDisk::Kept(disk) => disk.unused_watch(alloc),
+        }
     }
 }
 
 /// A view of a log of a `FolderDisk`. It is not honest, as a `DirView`.
 #[derive(Drop)]
 pub struct FolderView {
-    view: LimitedView<DirView>,
+    view: HintedView<LimitedView<DirView>>,
+}
+
+impl FolderView {
+    /// Returns whether a hint lists the records of the log, so that they need not be read.
+    pub fn is_hinted(&self) -> bool {
+        self.view.table.is_some()
+    }
 }
 
 impl LogView for FolderView {
@@ -62,6 +96,10 @@ impl LogView for FolderView {
 
     fn read_into(&self, at: u64, out: &mut [u8]) -> Result<(), DiskFault> {
         self.view.read_into(at, out)
+    }
+
+    fn lend(&self, at: u64) -> &[u8] {
+        self.view.lend(at)
     }
 }
 

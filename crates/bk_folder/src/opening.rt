@@ -10,6 +10,7 @@ ghost use Rattle.bk_folder.specs.Failures.{failures_of};
 
 use crate::book::Book;
 use crate::folder_disk::FolderDisk;
+use crate::notes::Notes;
 use crate::opening_view::OpeningView;
 use bk_disk::{DiskFault, LogDisk, LogView};
 use bk_drive::{Answer, OpenFault, Settings, Step, drive_recorded};
@@ -27,9 +28,11 @@ const PATIENCE: u64 = 1000;
 pub struct Opened {
     /// The number of logs.
     pub logs: u64,
-    /// The number of logs read to their ends.
-    pub read: u64,
-    /// The bytes of these.
+    /// The number of logs that are done.
+    pub done: u64,
+    /// The number of those whose hint was read in place of their records.
+    pub hinted: u64,
+    /// The bytes of the others, which were read to their ends.
     pub bytes: u64,
     /// The seconds so far.
     pub seconds: u64,
@@ -38,11 +41,11 @@ pub struct Opened {
 impl Display for Opened {
     fn fmt<W: fmt::Write>(&self, f: &mut Formatter<W>) -> fmt::Result {
         let megabytes = self.bytes / 1_000_000;
-        write!(
-            f,
-            "opening: {} of {} logs, {megabytes} MB read",
-            self.read, self.logs
-        )?;
+        write!(f, "opening: {} of {} logs", self.done, self.logs)?;
+        if self.hinted > 0 {
+            write!(f, ", {} by hints", self.hinted)?;
+        }
+        write!(f, ", {megabytes} MB read")?;
         match megabytes.checked_div(self.seconds) {
             Some(rate) => write!(f, ", {rate} MB/s"),
             None => Ok(()),
@@ -93,8 +96,9 @@ impl OpeningDisk {
                 line: Line::new(rt),
                 logs: 0,
                 viewed: 0,
+                hinted: 0,
                 bytes: 0,
-                last: 0,
+                last: None,
             },
         }
     }
@@ -113,6 +117,15 @@ impl OpeningDisk {
     pub fn failed_calls(&self) -> Result<FailedCalls, AllocError> {
         self.failed.share()
     }
+
+    /// Returns what is to be reported after the disk was moved or dropped. Fails if memory is refused.
+    pub fn notes(&self, alloc: Global) -> Result<Notes, AllocError> {
+        Ok(Notes {
+            alloc,
+            unused: self.disk.unused_watch(alloc)?,
+            failed: self.failed.share()?,
+        })
+    }
 }
 
 /// An opening, and its line.
@@ -123,10 +136,19 @@ struct Opening {
     logs: u64,
     /// The number of logs viewed: all but the last one were read.
     viewed: u64,
+    /// The number of those whose hint was read in place of their records.
+    hinted: u64,
     /// The bytes of those that were read.
     bytes: u64,
-    /// The bytes of the last one.
-    last: u64,
+    /// The last one.
+    last: Option<Viewed>,
+}
+
+/// A log that was viewed.
+#[derive(Clone, Copy)]
+struct Viewed {
+    bytes: u64,
+    is_hinted: bool,
 }
 
 impl Opening {
@@ -134,19 +156,25 @@ impl Opening {
     fn begin(&mut self, logs: usize) {
         self.logs = logs as u64;
         self.viewed = 0;
+        self.hinted = 0;
         self.bytes = 0;
-        self.last = 0;
+        self.last = None;
         self.line.begin();
     }
 
-    /// Goes on to a log of this length: those before it were read.
-    fn go_on(&mut self, bytes: u64) {
-        self.bytes = self.bytes.saturating_add(self.last);
-        self.last = bytes;
+    /// Goes on to a log: those before it are done.
+    fn go_on(&mut self, next: Viewed) {
+        match self.last {
+            Some(last) if last.is_hinted => self.hinted = self.hinted.saturating_add(1),
+            Some(last) => self.bytes = self.bytes.saturating_add(last.bytes),
+            None => {}
+        }
+        self.last = Some(next);
         if let Some(since) = self.line.due(PATIENCE) {
             self.line.write(&Opened {
                 logs: self.logs,
-                read: self.viewed,
+                done: self.viewed,
+                hinted: self.hinted,
                 bytes: self.bytes,
                 seconds: since.as_secs(),
             });
@@ -239,7 +267,10 @@ impl LogDisk for OpeningDisk {
         failed.see(&answer);
         match answer {
             Ok(view) => {
-                self.opening.go_on(view.end());
+                self.opening.go_on(Viewed {
+                    bytes: view.end(),
+                    is_hinted: view.is_hinted(),
+                });
                 Ok(OpeningView { view, failed })
             }
             Err(fault) => Err(fault),

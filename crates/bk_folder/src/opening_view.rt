@@ -32,4 +32,8 @@ impl LogView for OpeningView {
         self.failed.see(&answer);
         answer
     }
+
+    fn lend(&self, at: u64) -> &[u8] {
+        self.view.lend(at)
+    }
 }

@@ -1,3 +1,4 @@
 pub mod Hints
 pub mod Truth
+pub mod Usable
 pub mod Hinting

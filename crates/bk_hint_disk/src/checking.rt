@@ -1,32 +1,37 @@
 //! Whether a hint may be used.
 
-ghost use Rattle.std.specs.Prelude.{IfOk};
+ghost use Rattle.std.specs.Prelude.{IsTrue, IfOk, OnOk};
 ghost use Rattle.bk_hint_disk.specs.Truth.{IsHintOf};
+ghost use Rattle.bk_hint_disk.specs.Usable.{AreProbesOf, FitsTail, IsFrontOf, IsUsable};
 
 use crate::WhyNot;
-use crate::sealed::{Seal, checksum_of, map_of, seal_of};
-use bk_disk::{DiskFault, LogView};
+use crate::sample::{Probe, check_probes, probes_of};
+use crate::sealed::{Seal, checksum_of, map_of, seal_of, tail_of};
+use bk_disk::LogView;
 use bk_hint::{Contents, HintFault, LogFacts, decode, fits_map};
 use std::alloc::Global;
 
 /// A hint of a log, as far as its header tells, and what it has to be compared with: the ledgers map
-/// of the log, which is at `at` and has `left` bytes.
+/// of the log, from a position on, and records.
 #[derive(Drop)]
 pub(crate) struct Front {
     pub(crate) contents: Contents,
     pub(crate) facts: LogFacts,
     pub(crate) seal: Seal,
-    pub(crate) at: u64,
-    pub(crate) left: u64,
+    pub(crate) probes: Vec<Probe>,
 }
 
 /// Returns the entries of a hint if it may be used for the log of this id, header and view. The
 /// header is the first 1024 bytes of the log.
 ///
+/// Reads the ledgers map of the log, and the first 20 bytes of at most 16 of its records, in one
+/// read each: the first record, the last one, and those between at even distances.
+///
 /// # Errors
 ///
 /// The first reason against it, in this order: `Damaged`, `OtherLog`, `OtherLength`, `NotSealed`,
-/// `PastMap`, `OtherChecksum`, `OtherMap`. `Memory` and `Disk` can occur at any point.
+/// `PastMap`, `OtherChecksum`, `OtherMap`, `OtherRecords`. `Memory` and `Disk` can occur at any
+/// point.
 pub fn check_hint<V: LogView>(
     alloc: Global,
     hint: &[u8],
@@ -34,14 +39,16 @@ pub fn check_hint<V: LogView>(
     header: &[u8],
     view: &V,
 ) -> Result<Contents, WhyNot>
-    ensures { IfOk result (λ entries. IsHintOf hint.now log entries) }
+    ensures hint { IfOk result (λ entries. IsHintOf hint.now log entries) }
+    ensures usable { IsTrue (V.honest view.now) → IfOk result (λ entries. IsUsable header.now (V.bytes view.now) hint.now log entries) }
 {
     let front = check_front(alloc, hint, log, header, view.end())?;
-    let tail = match view.read_at(alloc, front.at, front.left) {
+    let tail = match tail_of(alloc, view, front.seal.at) {
         Ok(tail) => tail,
-        Err(fault) => return Err(why_unread(fault)),
+        Err(fault) => return Err(WhyNot::unread(fault)),
     };
     check_map(alloc, &front, header, &tail)?;
+    check_probes(view, &front.probes)?;
     Ok(front.contents)
 }
 
@@ -54,7 +61,8 @@ pub(crate) fn check_front(
     header: &[u8],
     length: u64,
 ) -> Result<Front, WhyNot>
-    ensures hint { IfOk result (λ front. IsHintOf hint.now log front.contents) }
+    ensures front { IfOk result (λ front. IsFrontOf header.now length hint.now log front.facts front.contents front.seal.at) }
+    ensures probes { IfOk result (λ front. AreProbesOf front.contents front.probes.items) }
 {
     let (contents, facts) = match decode(alloc, hint) {
         Ok(found) => found,
@@ -73,13 +81,14 @@ pub(crate) fn check_front(
     if contents.end() > seal.at {
         return Err(WhyNot::PastMap);
     }
-    let at = seal.at;
+    let Ok(probes) = probes_of(alloc, &contents) else {
+        return Err(WhyNot::Memory);
+    };
     Ok(Front {
         contents,
         facts,
         seal,
-        at,
-        left: length - at,
+        probes,
     })
 }
 
@@ -89,7 +98,9 @@ pub(crate) fn check_map(
     front: &Front,
     header: &[u8],
     tail: &[u8],
-) -> Result<(), WhyNot> {
+) -> Result<(), WhyNot>
+    ensures { OnOk result (FitsTail header.now tail.now front.now.facts front.now.contents) }
+{
     if checksum_of(header, tail) != front.facts.checksum {
         return Err(WhyNot::OtherChecksum);
     }
@@ -98,13 +109,5 @@ pub(crate) fn check_map(
         Ok(true) => Ok(()),
         Ok(false) => Err(WhyNot::OtherMap),
         Err(_) => Err(WhyNot::Memory),
-    }
-}
-
-/// Returns why a hint is not used if its log could not be read.
-pub(crate) fn why_unread(fault: DiskFault) -> WhyNot {
-    match fault {
-        DiskFault::Memory => WhyNot::Memory,
-        _ => WhyNot::Disk,
     }
 }

@@ -4,15 +4,17 @@ ghost use Rattle.std.specs.Prelude.{false};
 ghost use Rattle.std.specs.FinMap as map;
 
 use crate::{HintStoreFault, Hints};
+use bk_record::{HEADER_LENGTH, MAX_LOG_LENGTH, RECORD_HEAD};
 use std::alloc::{AllocError, Global};
 use std::fs::{self, File, OpenOptions};
 use std::io::{ErrorKind, Write};
-use std::os::unix::fs::FileExt;
+use std::os::unix::fs::{FileExt, MetadataExt};
 
 /// A store of hints in a directory: that of log 31 is the file `1f.hint`. It is written as
 /// `1f.hint.new` and renamed. Nothing is synced: a torn hint does not pass its checksum.
 ///
-/// The store is not honest: other programs may write the files.
+/// `get` reads plain files alone (`NotPlain`), of which none is longer than a hint can be
+/// (`TooLong`). The store is not honest: other programs may write the files.
 #[derive(Drop)]
 pub struct DirHints {
     rt: HostRuntime,
@@ -31,6 +33,27 @@ impl DirHints {
     /// Returns the path of the hint of a log.
     fn path(&self, log: u32) -> Result<String, AllocError> {
         format!(in self.rt.alloc(); "{}/{log:x}.hint", self.folder)
+    }
+
+    /// Opens the hint at a path, `None` if there is none. Follows no link, and opens no named pipe,
+    /// which would wait for a writer.
+    fn opened(&self, path: &str) -> Result<Option<File>, HintStoreFault> {
+        let found = match fs::symlink_metadata(&self.rt, path) {
+            Ok(found) => found,
+            Err(error) if error.kind() == ErrorKind::NotFound => return Ok(None),
+            Err(_) => return Err(HintStoreFault::Disk),
+        };
+        if !found.is_file() {
+            return Err(HintStoreFault::NotPlain);
+        }
+        let Ok(file) = File::open(&self.rt, path) else {
+            return Err(HintStoreFault::Disk);
+        };
+        match file.metadata() {
+            Ok(now) if now.dev() == found.dev() && now.ino() == found.ino() => Ok(Some(file)),
+            Ok(_) => Err(HintStoreFault::NotPlain),
+            Err(_) => Err(HintStoreFault::Disk),
+        }
     }
 
     /// Writes a new file of these bytes, in place of one that is there. A link is replaced, and not
@@ -52,12 +75,19 @@ impl DirHints {
     }
 }
 
-/// Returns the bytes of a file that is open.
+/// Greatest length of a hint in bytes: 36, and for each record a head of 24 and a step of 4. A log
+/// has less than 2^32 bytes, of which 1024 are its header, and a record has at least 20.
+const LONGEST: u64 = 36 + 28 * ((MAX_LOG_LENGTH - HEADER_LENGTH as u64) / RECORD_HEAD as u64);
+
+/// Returns the bytes of a hint that is open.
 fn bytes_of(alloc: Global, file: &File) -> Result<Vec<u8>, HintStoreFault> {
-    let length = match file.metadata() {
-        Ok(found) if found.is_file() => found.len(),
-        _ => return Err(HintStoreFault::Disk),
+    let Ok(found) = file.metadata() else {
+        return Err(HintStoreFault::Disk);
     };
+    let length = found.len();
+    if length > LONGEST {
+        return Err(HintStoreFault::TooLong(length));
+    }
     let Ok(mut bytes) = vec![in alloc; 0u8; length as usize] else {
         return Err(HintStoreFault::Memory);
     };
@@ -76,13 +106,9 @@ impl Hints for DirHints {
         let Ok(path) = self.path(log) else {
             return Err(HintStoreFault::Memory);
         };
-        match OpenOptions::new().read(true).open(&self.rt, path.as_str()) {
-            Ok(file) => match bytes_of(alloc, &file) {
-                Ok(bytes) => Ok(Some(bytes)),
-                Err(fault) => Err(fault),
-            },
-            Err(error) if error.kind() == ErrorKind::NotFound => Ok(None),
-            Err(_) => Err(HintStoreFault::Disk),
+        match self.opened(path.as_str())? {
+            Some(file) => Ok(Some(bytes_of(alloc, &file)?)),
+            None => Ok(None),
         }
     }
 

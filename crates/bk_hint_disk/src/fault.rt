@@ -13,6 +13,12 @@ pub enum HintStoreFault {
     /// The device failed.
     #[error("disk")]
     Disk,
+    /// A link, a directory or something else that is no plain file has the name of the hint.
+    #[error("no plain file")]
+    NotPlain,
+    /// The file has this many bytes, more than the hint of a log can have.
+    #[error("hint length {0}")]
+    TooLong(u64),
 }
 
 /// Why a hint could not be made.

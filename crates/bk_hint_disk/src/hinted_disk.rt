@@ -6,10 +6,10 @@ ghost use Rattle.bk_hint_disk.specs.Truth.{AreTrue};
 mod log_disk;
 
 use crate::uses::Uses;
-use crate::{HintStoreFault, Hints, MakeFault, Unused, make_hint};
+use crate::{HintStoreFault, Hints, MakeFault, Unused, UnusedWatch, make_hint};
 use bk_disk::{DiskFault, LogDisk};
 use bk_record::HEADER_LENGTH;
-use std::alloc::Global;
+use std::alloc::{AllocError, Global};
 use std::marker::Model;
 
 /// A disk over another one, and a store of hints of its logs. After a `list`, the first view of each
@@ -89,6 +89,16 @@ impl<D: LogDisk, H: Hints> HintedDisk<D, H> {
         self.uses.unused()
     }
 
+    /// Returns a watch that lists the same hints, also after this disk was moved or dropped.
+    ///
+    /// # Errors
+    ///
+    /// - `AllocError` if memory for it was refused when this disk was made, or if no further watch
+    ///   can be counted.
+    pub fn unused_watch(&self, _alloc: Global) -> Result<UnusedWatch, AllocError> {
+        self.uses.watch()
+    }
+
     /// Does nothing. Reveals the type invariant: while hints are believed, each one is true of its
     /// log.
     pub fn reveal_invariant(&self)
@@ -121,7 +131,7 @@ impl<D: LogDisk, H: Hints> HintedDisk<D, H> {
             Ok(Some(hint)) => match self.hints.put(alloc, log, &hint) {
                 Ok(()) => Ok(true),
                 Err(HintStoreFault::Memory) => Err(MakeFault::Memory),
-                Err(HintStoreFault::Disk) => Err(MakeFault::Store),
+                Err(_) => Err(MakeFault::Store),
             },
             Ok(None) => Ok(false),
             Err(fault) => Err(fault),

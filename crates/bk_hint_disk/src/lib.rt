@@ -9,7 +9,9 @@ mod hinted_disk;
 mod hints;
 mod making;
 mod mem_hints;
+mod sample;
 mod sealed;
+mod unused_watch;
 mod uses;
 mod why_not;
 
@@ -20,4 +22,5 @@ pub use hinted_disk::HintedDisk;
 pub use hints::Hints;
 pub use making::make_hint;
 pub use mem_hints::MemHints;
+pub use unused_watch::UnusedWatch;
 pub use why_not::{Unused, WhyNot};

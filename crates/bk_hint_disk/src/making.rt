@@ -5,6 +5,7 @@ ghost use Rattle.bk_record.specs.Files.{header_length};
 ghost use Rattle.bk_disk.specs.Disk.{view_end};
 ghost use Rattle.bk_hint_view.specs.Rows.{AreRecords};
 ghost use Rattle.bk_hint_disk.specs.Truth.{IsTrueHint};
+ghost use Rattle.bk_hint_disk.specs.Usable.{IsUsableHint};
 
 use crate::sealed::{checksum_of, map_of, seal_of, tail_of};
 use crate::{MakeFault, WhyNot};
@@ -16,7 +17,8 @@ use std::alloc::Global;
 
 /// Returns the hint of a sealed log of this id, header and view, whose records it scans. The header
 /// is the first 1024 bytes of the log. Returns `None` if the log is not sealed, if a record before
-/// its ledgers map has a bad length, or if its ledgers map is not that of its entries.
+/// its ledgers map has a bad length, or if its ledgers map is not that of its entries. A hint that is
+/// made is true, and may be used for this log.
 ///
 /// # Errors
 ///
@@ -27,7 +29,8 @@ pub fn make_hint<V: LogView>(
     header: &[u8],
     view: &V,
 ) -> Result<Option<Vec<u8>>, MakeFault>
-    ensures { IsTrue (V.honest view.now) → IfOk result (λ made. IfSome made (λ hint. IsTrueHint (V.bytes view.now) hint.items)) }
+    ensures records { IsTrue (V.honest view.now) → IfOk result (λ made. IfSome made (λ hint. IsTrueHint (V.bytes view.now) hint.items)) }
+    ensures usable { IsTrue (V.honest view.now) → IfOk result (λ made. IfSome made (λ hint. IsUsableHint header.now (V.bytes view.now) hint.items log)) }
 {
     let length = view.end();
     let Some(seal) = seal_of(header, length) else {
@@ -36,6 +39,9 @@ pub fn make_hint<V: LogView>(
     let Some(contents) = contents_of(alloc, view, seal.at)? else {
         return Ok(None);
     };
+    if contents.end() > seal.at {
+        return Ok(None);
+    }
     let tail = match tail_of(alloc, view, seal.at) {
         Ok(tail) => tail,
         Err(fault) => return Err(MakeFault::of_disk(fault)),

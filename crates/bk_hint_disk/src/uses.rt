@@ -1,14 +1,15 @@
 //! Which hints are to be used, and which were not.
 
-ghost use Rattle.std.specs.Prelude.{◌≡◌, IfSome, IsNone};
+ghost use Rattle.std.specs.Prelude.{◌≡◌, IfOk, IfSome, IsNone};
 ghost use Rattle.bk_hint_view.specs.Rows.{rows_of};
 ghost use Rattle.bk_hint_disk.specs.Truth.{HasHint};
 
-use crate::checking::{Front, check_front, check_map, why_unread};
-use crate::{HintStoreFault, Unused, WhyNot};
+use crate::checking::{Front, check_front, check_map};
+use crate::{HintStoreFault, Unused, UnusedWatch, WhyNot};
 use bk_disk::DiskFault;
+use bk_hint::HintFault;
 use bk_hint_view::Table;
-use std::alloc::Global;
+use std::alloc::{AllocError, Global};
 
 /// The logs whose next view gets its hint, and the hints that were not used.
 #[derive(Drop)]
@@ -16,6 +17,8 @@ pub(crate) struct Uses {
     /// By rising id.
     armed: Vec<u32>,
     unused: Vec<Unused>,
+    /// `None` if memory for it was refused.
+    watch: Option<UnusedWatch>,
 }
 
 impl Uses {
@@ -23,12 +26,21 @@ impl Uses {
         Uses {
             armed: Vec::new(alloc),
             unused: Vec::new(alloc),
+            watch: UnusedWatch::new(alloc).ok(),
         }
     }
 
     /// Returns the hints that were not used.
     pub(crate) fn unused(&self) -> &[Unused] {
         &self.unused
+    }
+
+    /// Returns a watch of the hints that are not used.
+    pub(crate) fn watch(&self) -> Result<UnusedWatch, AllocError> {
+        match &self.watch {
+            Some(watch) => watch.share(),
+            None => Err(AllocError),
+        }
     }
 
     /// Has the next view of each of these logs get its hint; none of them if memory is refused.
@@ -65,8 +77,7 @@ impl Uses {
         let hint = match found {
             Ok(Some(hint)) => hint,
             Ok(None) => return None,
-            Err(HintStoreFault::Memory) => return self.refuse(log, WhyNot::Memory),
-            Err(HintStoreFault::Disk) => return self.refuse(log, WhyNot::Disk),
+            Err(fault) => return self.refuse(log, why_unfound(*fault)),
         };
         match check_front(alloc, hint, log, header, length) {
             Ok(front) => Some(front),
@@ -74,8 +85,8 @@ impl Uses {
         }
     }
 
-    /// Returns the table of a hint, if the ledgers map of its log fits, `tail`; else notes why it is
-    /// not used.
+    /// Returns the table of a hint, if the ledgers map of its log fits, `tail`, and the records that
+    /// were compared do; else notes why it is not used.
     pub(crate) fn table(
         &mut self,
         alloc: Global,
@@ -83,27 +94,14 @@ impl Uses {
         front: &Front,
         header: &[u8],
         tail: Result<Vec<u8>, DiskFault>,
+        compared: Result<(), WhyNot>,
     ) -> Option<Table>
         ensures { IfSome result (λ table. table ≡ rows_of front.now.contents) }
     {
-        let tail = match tail {
-            Ok(tail) => tail,
-            Err(fault) => {
-                self.note(log, why_unread(fault));
-                return None;
-            }
-        };
-        match check_map(alloc, front, header, &tail) {
-            Ok(()) => {}
+        match table_of(alloc, front, header, tail, compared) {
+            Ok(table) => Some(table),
             Err(why) => {
                 self.note(log, why);
-                return None;
-            }
-        }
-        match Table::of(alloc, &front.contents) {
-            Ok(table) => Some(table),
-            Err(_) => {
-                self.note(log, WhyNot::Memory);
                 None
             }
         }
@@ -119,6 +117,43 @@ impl Uses {
 
     /// Notes that a hint is not used.
     fn note(&mut self, log: u32, why: WhyNot) {
-        let _ = self.unused.push(Unused { log, why });
+        let unused = Unused { log, why };
+        if let Some(watch) = &self.watch {
+            watch.note(unused);
+        }
+        let _ = self.unused.push(unused);
+    }
+}
+
+/// Returns the table of a hint, if the ledgers map of its log fits, `tail`, and the records that were
+/// compared do.
+fn table_of(
+    alloc: Global,
+    front: &Front,
+    header: &[u8],
+    tail: Result<Vec<u8>, DiskFault>,
+    compared: Result<(), WhyNot>,
+) -> Result<Table, WhyNot>
+    ensures { IfOk result (λ table. table ≡ rows_of front.now.contents) }
+{
+    let tail = match tail {
+        Ok(tail) => tail,
+        Err(fault) => return Err(WhyNot::unread(fault)),
+    };
+    check_map(alloc, front, header, &tail)?;
+    compared?;
+    match Table::of(alloc, &front.contents) {
+        Ok(table) => Ok(table),
+        Err(_) => Err(WhyNot::Memory),
+    }
+}
+
+/// Returns why a hint is not used if it could not be read.
+fn why_unfound(fault: HintStoreFault) -> WhyNot {
+    match fault {
+        HintStoreFault::Memory => WhyNot::Memory,
+        HintStoreFault::Disk => WhyNot::Disk,
+        HintStoreFault::NotPlain => WhyNot::NotPlain,
+        HintStoreFault::TooLong(length) => WhyNot::Damaged(HintFault::Length(length)),
     }
 }

@@ -1,5 +1,6 @@
 //! Why a hint is not used.
 
+use bk_disk::DiskFault;
 use bk_hint::HintFault;
 use thiserror::Error;
 
@@ -27,6 +28,13 @@ pub enum WhyNot {
     /// The log's ledgers map cannot be read, or has other ledgers or sizes than the entries.
     #[error("hint of another ledgers map")]
     OtherMap,
+    /// A record of the log, of those that are compared, has another size, ledger or entry id than
+    /// the entry of the hint at its position.
+    #[error("hint of other records")]
+    OtherRecords,
+    /// A link, a directory or something else that is no plain file has the name of the hint.
+    #[error("hint is no plain file")]
+    NotPlain,
     /// An allocation was refused.
     #[error("memory")]
     Memory,
@@ -35,8 +43,19 @@ pub enum WhyNot {
     Disk,
 }
 
-/// A hint that is there and not used.
-#[derive(Clone, Copy, Debug, PartialEq, Eq)]
+impl WhyNot {
+    /// Returns why a hint is not used if its log could not be read.
+    pub(crate) fn unread(fault: DiskFault) -> WhyNot {
+        match fault {
+            DiskFault::Memory => WhyNot::Memory,
+            _ => WhyNot::Disk,
+        }
+    }
+}
+
+/// A hint that is there and not used. Its text is `hint of log LOG not used: REASON`.
+#[derive(Clone, Copy, Debug, PartialEq, Eq, Error)]
+#[error("hint of log {log} not used: {why}")]
 pub struct Unused {
     /// The log whose hint it is.
     pub log: u32,

@@ -7,7 +7,7 @@ use bk_deleted::Deleted;
 use bk_disk::{FolderFault, LogDisk};
 use bk_folder::{Opening, OpeningDisk, OpeningFault, open_or_make};
 use bk_import::{ImportFault, Imported, Settings, import};
-use bk_inspect::Form;
+use bk_inspect::{Form, Hints};
 use bk_messages::{CommandFault, RowFault, WayOn, end_early, write_object, write_row};
 use serde::Serialize;
 use std::alloc::{AllocError, Global};
@@ -88,12 +88,13 @@ pub fn run_import<W: Write, E: Write>(
     file: &str,
     deleted: &Deleted,
     no_manifest: bool,
+    hints: Hints,
     writer: &mut W,
     errors: &mut E,
 ) -> u8
     ensures { result ≤ 1 }
 {
-    match import_file(rt, form, path, file, deleted, no_manifest, errors) {
+    match import_file(rt, form, path, file, deleted, no_manifest, hints, errors) {
         Ok(imported) => show(rt.alloc(), form, imported, writer, errors),
         Err(fault) => {
             let _ = tell(rt.alloc(), form, &fault, errors);
@@ -102,7 +103,7 @@ pub fn run_import<W: Write, E: Write>(
     }
 }
 
-/// Adds the entries. Reports each call of the system that failed.
+/// Adds the entries. Reports each hint that is not used, and each call of the system that failed.
 fn import_file<E: Write>(
     rt: &HostRuntime,
     form: Form,
@@ -110,10 +111,11 @@ fn import_file<E: Write>(
     file: &str,
     deleted: &Deleted,
     no_manifest: bool,
+    hints: Hints,
     errors: &mut E,
 ) -> Result<Imported, Fault> {
     let mut reader = reader_of(rt, file)?;
-    let opened = open_or_make(rt, path, no_manifest)?;
+    let opened = open_or_make(rt, path, no_manifest, hints)?;
     opened.tell(form, errors);
     import_all(
         rt.alloc(),
@@ -150,10 +152,10 @@ fn import_all<R: Read, E: Write>(
     reader: &mut R,
     errors: &mut E,
 ) -> Result<Imported, Fault> {
-    let failed = opened.disk.failed_calls()?;
+    let notes = opened.disk.notes(alloc)?;
     let (disk, dead) = recorded_disk(opened, named)?;
     let done = import_on(alloc, disk, &dead, reader);
-    failed.tell(form, errors);
+    notes.tell(form, errors);
     done
 }
 

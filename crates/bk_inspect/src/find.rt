@@ -8,7 +8,7 @@ use crate::fault::tell_damage;
 use crate::form::{write_object, write_row};
 use crate::header::HEADER;
 use crate::turns::Turns;
-use crate::walk::judged_view;
+use crate::walk::{Judged, judged_view};
 use crate::{DirFault, Form};
 use bk_disk::{LogDisk, LogView};
 use bk_log::{Found, Scanner};
@@ -41,26 +41,20 @@ pub(crate) fn show_last<D: LogDisk, W: Write, E: Write>(
     let mut last = None;
     let mut status = 0;
     while let Some(log) = turns.next(alloc, disk)? {
-        let judged = match judged_view(alloc, disk, log, form, errors) {
-            Ok(judged) => judged,
-            Err(DirFault::NoLog) => {
-                turns.miss();
-                continue;
+        match search_log(alloc, disk, log, key, form, errors) {
+            Ok(search) => {
+                let Search {
+                    view,
+                    found,
+                    status: searched,
+                } = search;
+                status = searched.max(status);
+                if let Some(found) = found {
+                    last = later(last, (log, view, found));
+                }
             }
+            Err(DirFault::NoLog) => turns.miss(),
             Err(fault) => return Err(fault),
-        };
-        status = judged.status.max(status);
-        let mut found = None;
-        match last_in(alloc, &judged.view, key, &mut found) {
-            Ok(()) => {}
-            Err(DirFault::Log(fault)) => {
-                tell_damage(alloc, form, log, fault, errors);
-                status = 1;
-            }
-            Err(fault) => return Err(fault),
-        }
-        if let Some(found) = found {
-            last = later(last, (log, judged.view, found));
         }
     }
     match last {
@@ -69,6 +63,46 @@ pub(crate) fn show_last<D: LogDisk, W: Write, E: Write>(
         None => {}
     }
     Ok(status)
+}
+
+/// A view of a log that was searched.
+#[derive(Drop)]
+struct Search<V: LogView> {
+    view: V,
+    /// The last record of the key.
+    found: Option<Found>,
+    /// 1 if the log has a fault, else 0.
+    status: u8,
+}
+
+/// Finds the last record of a key in a log, which is searched as far as it can be read. Reports a
+/// fault of it. Fails with `NoLog` if the log is removed meanwhile.
+fn search_log<D: LogDisk, E: Write>(
+    alloc: Global,
+    disk: &mut D,
+    log: u32,
+    key: Key,
+    form: Form,
+    errors: &mut E,
+) -> Result<Search<D::View>, DirFault>
+    ensures status { IfOk result (λ search. search.status ≤ 1) }
+    ensures reads { OnlyReads (D.honest disk.old) (D.files disk.old) (D.honest disk.new) (D.files disk.new) }
+{
+    let Judged { view, status } = judged_view(alloc, disk, log, form, errors)?;
+    let mut found = None;
+    let status = match last_in(alloc, &view, key, &mut found) {
+        Ok(()) => status,
+        Err(DirFault::Log(fault)) => {
+            tell_damage(alloc, form, log, fault, errors);
+            1
+        }
+        Err(fault) => return Err(fault),
+    };
+    Ok(Search {
+        view,
+        found,
+        status,
+    })
 }
 
 /// Returns the record of the later log of two.

@@ -7,16 +7,14 @@ ghost use Rattle.std.specs.Prelude.{◌≤◌};
 
 use crate::cut_folder::log_path;
 use crate::ends::{Ended, with_ends};
-use crate::export::run_export_watched;
 use crate::fault::tell_fault;
 use crate::folder_disk::Folder;
 use crate::form::write_object;
-use crate::run::run_dir_watched;
-use crate::stat::run_stat_watched;
+use crate::hinted::run_hinted;
 use crate::survey::Unread;
 use crate::unsealed::find_watched;
 use crate::visit::{TakesLogs, visit_watched};
-use crate::{DataForm, DirCommand, DirFault, Ends, EntryRange, Form};
+use crate::{DataForm, DirCommand, DirFault, Ends, EntryRange, Form, Hints};
 use bk_disk::{DirDisk, FaultWatch, FolderFault};
 use bk_manifest_disk::LimitedDisk;
 use serde::Serialize;
@@ -42,7 +40,7 @@ pub enum FolderCommand<'a> {
 }
 
 /// Runs a command on the directory at a path, as `run_dir` and `run_stat` do on a disk. Returns the
-/// program's status: 0 or 1.
+/// program's status: 0 or 1. No hint is used.
 ///
 /// If the command reads all logs, one that cannot be opened, such as a dangling link or a file
 /// without permission, is left out and reported on the error stream, `fault log ID: disk: REASON`;
@@ -61,7 +59,8 @@ pub fn run_folder<W: Write, E: Write>(
     match DirDisk::open(rt, path) {
         Ok(disk) => {
             let disk = LimitedDisk::new(disk, BTreeMap::new(rt.alloc()));
-            run_on(rt, Form::Text, path, disk, command, writer, errors)
+            let hints = Hints::Ignored;
+            run_on(rt, Form::Text, path, disk, hints, command, writer, errors)
         }
         Err(fault) => {
             tell_fault(rt.alloc(), Form::Text, None, DirFault::from(fault), errors);
@@ -74,6 +73,10 @@ pub fn run_folder<W: Write, E: Write>(
 /// A directory that cannot be opened is reported as `fault disk: PATH: REASON`, a failed call of
 /// the system with the file and the reason.
 ///
+/// If hints are used, `Find`, `Entries`, `Ledgers`, `Stat` and `Export` read the hint of a sealed log
+/// and no record of it but those that they show. A hint that is there and may not be used is noted on
+/// the error stream, and the log is read; the status stays. Other commands use no hint.
+///
 /// The logs end as asked. Bytes that are hidden are noted on the error stream, and so are durable
 /// bytes that are missing; these make the status of a check 1.
 pub fn run_folder_as<W: Write, E: Write>(
@@ -81,6 +84,7 @@ pub fn run_folder_as<W: Write, E: Write>(
     form: Form,
     path: &str,
     ends: Ends,
+    hints: Hints,
     command: &FolderCommand<'_>,
     writer: &mut W,
     errors: &mut E,
@@ -91,7 +95,7 @@ pub fn run_folder_as<W: Write, E: Write>(
         Ok(disk) => {
             let only = log_of(command);
             let Ended { disk, is_doubted } = with_ends(rt, form, path, disk, ends, only, errors);
-            let status = run_on(rt, form, path, disk, command, writer, errors);
+            let status = run_on(rt, form, path, disk, hints, command, writer, errors);
             if is_doubted && is_check(command) {
                 1
             } else {
@@ -174,29 +178,16 @@ fn run_on<W: Write, E: Write>(
     form: Form,
     path: &str,
     disk: LimitedDisk<DirDisk>,
+    hints: Hints,
     command: &FolderCommand<'_>,
     writer: &mut W,
     errors: &mut E,
 ) -> u8
     ensures { result ≤ 1 }
 {
-    let alloc = rt.alloc();
-    let watch = watch_of(alloc, disk.inner());
+    let watch = watch_of(rt.alloc(), disk.inner());
     let watch = watch.as_ref();
-    let mut folder = Folder::new(rt, path, disk);
-    let status = match command {
-        FolderCommand::Dir(command) => {
-            run_dir_watched(alloc, form, watch, &mut folder, *command, writer, errors)
-        }
-        FolderCommand::Stat(dead) => {
-            run_stat_watched(alloc, form, watch, &mut folder, dead, writer, errors)
-        }
-        FolderCommand::Export(range, data) => {
-            let asked = (*range, *data);
-            run_export_watched(alloc, form, watch, &mut folder, asked, writer, errors)
-        }
-    };
-    if folder.tell(form, errors) { 1 } else { status }
+    run_hinted(rt, form, path, watch, disk, hints, command, writer, errors)
 }
 
 /// Takes in the logs of the directory at a path, as `visit_disk` those of a disk, then those that

@@ -1,10 +1,13 @@
-//! Notes on the logs of a directory: bytes that are ignored, and durable bytes that are missing.
+//! Notes on the logs of a directory: bytes that are ignored, durable bytes that are missing, and hints
+//! that are not used.
 
 use crate::Form;
 use crate::form::write_row;
+use bk_hint_disk::Unused;
 use bk_manifest_disk::{Cause, Lack, ReadFault, Report};
 use serde::Serialize;
 use std::alloc::Global;
+use std::collections::BTreeSet;
 use std::fmt;
 use std::fmt::{Display, Formatter};
 use std::io::Write;
@@ -115,5 +118,38 @@ pub(crate) fn tell_unread_manifest<E: Write>(
             reason,
         };
         let _ = write_row(alloc, form, &row, errors);
+    }
+}
+
+/// The row of a hint that is not used.
+#[derive(Drop, Serialize)]
+struct UnusedRow {
+    note: &'static str,
+    log: u32,
+    why: String,
+}
+
+impl Display for UnusedRow {
+    fn fmt<W: fmt::Write>(&self, f: &mut Formatter<W>) -> fmt::Result {
+        write!(f, "note {}: log {}: {}", self.note, self.log, self.why)
+    }
+}
+
+/// Notes on the error stream the hints that are not used, in a line each: of each log the first. A
+/// failed write is ignored.
+pub fn tell_unused<E: Write>(alloc: Global, form: Form, unused: &[Unused], errors: &mut E) {
+    let mut told = BTreeSet::new(alloc);
+    for one in unused {
+        if let Ok(false) = told.insert(one.log) {
+            continue;
+        }
+        if let Ok(why) = one.why.to_string(alloc) {
+            let row = UnusedRow {
+                note: "hint not used",
+                log: one.log,
+                why,
+            };
+            let _ = write_row(alloc, form, &row, errors);
+        }
     }
 }

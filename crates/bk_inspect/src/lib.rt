@@ -28,6 +28,7 @@ mod form;
 mod front;
 mod header;
 mod help;
+mod hinted;
 mod ignored;
 mod ledgers;
 mod listing;
@@ -59,7 +60,8 @@ pub use folder::{
     FolderCommand, check_one_name, run_folder, run_folder_as, unlisted, unsealed_in, visit_folder,
 };
 pub use form::Form;
-pub use ignored::tell_ignored;
+pub use hinted::Hints;
+pub use ignored::{tell_ignored, tell_unused};
 pub use run::{run_dir, run_dir_as};
 pub use seal_run::{run_seal, run_seal_folder, run_seal_watched};
 pub use stat::{run_stat, run_stat_as};

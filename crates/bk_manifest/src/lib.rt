@@ -26,6 +26,3 @@ pub use record::Record;
 pub use rewriting::{NotRewritten, rewritten};
 pub use state::{LogState, State};
 pub use writing::{new_header, write_batch};
-
-#[cfg(test)]
-mod tests;

@@ -17,11 +17,12 @@ use crate::listing::{entries, last_entry, ledgers, read_last};
 use crate::reading::{holds, read, read_back};
 use crate::sealing::{checkpoint, close, flush, seal};
 use bk_disk::{DirDisk, LogDisk};
+use bk_hint_disk::HintedDisk;
+use bk_hint_folder::FolderHints;
 use bk_manifest::{Manifest, ManifestFile};
 use bk_manifest_disk::{KeptDisk, KeptFile, LimitedDisk};
 use bk_serve_core::{EncodeError, Refusal, Reply, Request};
-use bk_serve_dispatch::Service;
-use bk_store::{AddKind, Stats, Store};
+use bk_store::{AddKind, Store};
 use std::alloc::Global;
 
 /// Kind of the attribute that is a ledger's master key.
@@ -39,50 +40,8 @@ pub(crate) struct Host<D: LogDisk, F: ManifestFile> {
     pub(crate) background: Background,
 }
 
-/// The disk of the directory, with the manifest of its logs.
-pub(crate) type ServedDisk = KeptDisk<LimitedDisk<DirDisk>, KeptFile>;
-
-impl Service for Host<ServedDisk, KeptFile> {
-    ghost use Rattle.bk_manifest_disk.specs.Limiting.{ShownView, shown};
-    ghost use Rattle.bk_serve.specs.Flushes.{MayWork};
-
-    ghost answers = { λ s request reply t. Answers {V = ShownView} (λ v. shown v.limit v.bytes) (λ v. v.honest) (λ v. v.sound) s.store s.notes request reply t.store t.notes };
-
-    ghost works = { λ s t. MayWork s.store t.store × (t.notes ≡ s.notes) };
-
-    /// Carries out a request and appends its reply. If the store published entries or lost some,
-    /// another round of the compaction begins.
-    fn call(
-        &mut self,
-        id: u64,
-        request: &Request<'_>,
-        out: &mut Vec<u8>,
-    ) -> Result<(), EncodeError> {
-        if !self.background.is_on() {
-            return answer(self, id, request, out);
-        }
-        let before = self.store.stats();
-        let answered = answer(self, id, request, out);
-        if is_less(&self.store.stats(), &before) {
-            self.background.stir();
-        }
-        answered
-    }
-
-    fn is_due(&self) -> bool {
-        self.background.is_due()
-    }
-
-    /// Performs a step of the compaction.
-    fn work(&mut self) {
-        self.background.work(&mut self.store);
-    }
-}
-
-/// Returns whether fewer bytes are cached or fewer entries indexed.
-fn is_less(after: &Stats, before: &Stats) -> bool {
-    after.cached < before.cached || after.indexed < before.indexed
-}
+/// The disk of the directory, with the manifest of its logs and their hints.
+pub(crate) type ServedDisk = HintedDisk<KeptDisk<LimitedDisk<DirDisk>, KeptFile>, FolderHints>;
 
 /// Carries out a request and appends its reply.
 ///

@@ -10,15 +10,19 @@ mod compacting;
 mod figures;
 mod flushing;
 mod folder;
+mod hint_round;
+mod hinting;
 mod host;
 mod ledgers;
 mod listing;
 mod notes;
 mod opening;
+mod options;
 mod pump;
 mod reading;
 mod refusals;
 mod sealing;
+mod served;
 mod serving;
 mod tally;
 
@@ -37,8 +41,8 @@ fn main(rt: HostRuntime) -> ExitCode {
         }
     };
     match command_of(&words) {
-        Command::Serve { path, compact } => {
-            ExitCode::from(serve(&rt, rt, path, compact, &mut errors))
+        Command::Serve { path, options } => {
+            ExitCode::from(serve(&rt, rt, path, options, &mut errors))
         }
         Command::Help => ExitCode::from(print(&rt, HELP)),
         Command::Version => ExitCode::from(print(&rt, VERSION)),

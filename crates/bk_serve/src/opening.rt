@@ -3,7 +3,10 @@
 use crate::background::{Background, Thresholds};
 use crate::folder::open_folder;
 use crate::host::{Host, ServedDisk};
+use crate::options::Options;
 use bk_disk::{DiskFault, FolderFault, LogDisk};
+use bk_hint_disk::{HintedDisk, Unused};
+use bk_hint_folder::FolderHints;
 use bk_ledgers::{LEDGERS, Torn, ledgers_of, open_ledgers};
 use bk_manifest::{Manifest, ManifestError, ManifestFile};
 use bk_manifest_disk::{Fault, KeptFile, LOGS, Lack, Report, open_logs};
@@ -12,9 +15,9 @@ use bk_store::{FenceFault, Settings, Store};
 use std::alloc::{AllocError, AllocFailed, Global};
 use thiserror::Error;
 
-/// The settings of the store.
+/// The settings of a store without options.
 const SETTINGS: Settings = Settings {
-    log_limit: 1_073_741_824,
+    log_limit: Options::DEFAULT.log_limit,
     cache_limit: 67_108_864,
     recent: 1000,
     slots: 65_536,
@@ -129,12 +132,14 @@ fn fence_all<D: LogDisk>(store: &mut Store<D>, ledgers: &[u64]) -> Result<(), Al
     Ok(())
 }
 
-/// Returns the settings of a store that is compacted in the background.
-fn settings_of(compact: Option<Thresholds>) -> Settings {
-    let Some(Thresholds { minor, major }) = compact else {
-        return SETTINGS;
+/// Returns the settings of a store.
+fn settings_of(options: Options) -> Settings {
+    let (minor, major) = match options.compact {
+        Some(Thresholds { minor, major }) => (minor, major),
+        None => (0, 0),
     };
     Settings {
+        log_limit: options.log_limit,
         minor: if minor == 0 { SETTINGS.minor } else { minor },
         major: if major == 0 { SETTINGS.major } else { major },
         ..SETTINGS
@@ -146,11 +151,11 @@ fn open_host<D: LogDisk, F: ManifestFile>(
     alloc: Global,
     disk: D,
     notes: Manifest<F>,
-    compact: Option<Thresholds>,
+    options: Options,
 ) -> Result<Host<D, F>, OpenFault> {
     let records = notes.state().records(alloc)?;
     let named = ledgers_of(alloc, &records)?;
-    let mut store = match Store::open(alloc, disk, settings_of(compact), &named.deleted) {
+    let mut store = match Store::open(alloc, disk, settings_of(options), &named.deleted) {
         Ok(store) => store,
         Err(fault) => return Err(OpenFault::Store(fault)),
     };
@@ -159,7 +164,7 @@ fn open_host<D: LogDisk, F: ManifestFile>(
         alloc,
         store,
         notes,
-        background: Background::new(compact),
+        background: Background::new(options.compact),
     })
 }
 
@@ -178,27 +183,39 @@ pub(crate) struct Opening {
     pub(crate) torn: Vec<TornFile>,
     /// What is hidden of the logs, in their order.
     pub(crate) reports: Vec<Report>,
+    /// The hints that were there and not used, in the order of their logs.
+    pub(crate) unused: Vec<Unused>,
 }
 
 /// Opens the directory at a path.
-pub(crate) fn open(
-    rt: &HostRuntime,
-    path: &str,
-    compact: Option<Thresholds>,
-) -> Result<Opening, OpenFault> {
+pub(crate) fn open(rt: &HostRuntime, path: &str, options: Options) -> Result<Opening, OpenFault> {
     let alloc = rt.alloc();
     let mut disk = open_folder(rt, path)?;
     let ledgers = open_ledgers(alloc, &mut disk)?;
     let logs = open_logs(alloc, disk)?;
+    let hints = FolderHints::new(rt, path, options.hints)?;
+    let disk = HintedDisk::new(alloc, logs.disk, hints);
+    let watch = disk.unused_watch(alloc)?;
+    let host = open_host(alloc, disk, ledgers.manifest, options)?;
+    Ok(Opening {
+        host,
+        torn: torn_files(alloc, ledgers.torn, logs.torn)?,
+        reports: logs.reports,
+        unused: watch.list(alloc)?,
+    })
+}
+
+/// Returns the manifests that ended torn.
+fn torn_files(
+    alloc: Global,
+    ledgers: Option<Torn>,
+    logs: Option<Torn>,
+) -> Result<Vec<TornFile>, OpenFault> {
     let mut all = Vec::new(alloc);
-    for (name, torn) in [(LEDGERS, ledgers.torn), (LOGS, logs.torn)] {
+    for (name, torn) in [(LEDGERS, ledgers), (LOGS, logs)] {
         if let Some(torn) = torn {
             all.push(TornFile { name, torn })?;
         }
     }
-    Ok(Opening {
-        host: open_host(alloc, logs.disk, ledgers.manifest, compact)?,
-        torn: all,
-        reports: logs.reports,
-    })
+    Ok(all)
 }

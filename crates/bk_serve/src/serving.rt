@@ -1,15 +1,21 @@
 //! A session over standard input and output.
 
-use crate::background::Thresholds;
+use crate::hinting::{Hinting, wait_for_end};
+use crate::host::{Host, ServedDisk};
 use crate::listing::PAGE;
 use crate::opening::{OpenFault, Opening, TornFile, open};
+use crate::options::Options;
 use crate::pump::{Pumped, pump};
-use bk_manifest_disk::Report;
+use crate::served::Served;
+use bk_hint_disk::Unused;
+use bk_manifest_disk::KeptFile;
 use bk_serve_core::{Done, LONGEST_FRAME, Reply, VERSION};
 use bk_serve_dispatch::{
     Buffers, End, Input, Service, Source, finish, greet, serve_requests, tell_end,
 };
+use crossbeam_channel::Receiver;
 use std::io::{BufReader, BufWriter, Read, Stderr, Write};
+use std::rt::Clock;
 use std::sync::Wait;
 use std::thread;
 use std::thread::Threads;
@@ -29,17 +35,17 @@ const WELCOME: Reply<'static> = Reply::Done(Done::Welcome {
 
 /// Opens the directory at a path and serves it. Returns the exit status: 0 if the session ended in
 /// order and everything was flushed, else 1. Writes why the directory did not open to the error
-/// stream too, which manifest ended torn, what is ignored of the logs, and how many steps of the
-/// compaction failed.
-pub(crate) fn serve<H: Threads + Wait + Copy + Drop + Send + 'static>(
+/// stream too, which manifest ended torn, what is ignored of the logs, which hints are not used or
+/// could not be written, and how many steps of the compaction failed.
+pub(crate) fn serve<H: Threads + Wait + Clock + Copy + Drop + Send + 'static>(
     rt: &HostRuntime,
     handle: H,
     path: &str,
-    compact: Option<Thresholds>,
+    options: Options,
     errors: &mut Stderr,
 ) -> u8 {
-    if compact.is_none() {
-        return serve_input(rt, rt.stdin(), path, compact, errors);
+    if options.compact.is_none() {
+        return serve_input(rt, handle, rt.stdin(), path, options, errors);
     }
     let Some((to, input)) = Pumped::new(rt.alloc(), handle) else {
         let _ = writeln!(errors, "fault memory");
@@ -49,7 +55,7 @@ pub(crate) fn serve<H: Threads + Wait + Copy + Drop + Send + 'static>(
     let stdin = rt.stdin();
     // The thread is not joined: it may wait for input after the session has ended.
     match thread::spawn(&handle, move || pump(&handle, alloc, stdin, to)) {
-        Ok(_reading) => serve_input(rt, input, path, compact, errors),
+        Ok(_reading) => serve_input(rt, handle, input, path, options, errors),
         Err(_) => {
             let _ = writeln!(errors, "fault thread");
             1
@@ -58,11 +64,12 @@ pub(crate) fn serve<H: Threads + Wait + Copy + Drop + Send + 'static>(
 }
 
 /// Opens the directory at a path and serves it by this input.
-fn serve_input<I: Source + Drop>(
+fn serve_input<H: Threads + Wait + Clock + Copy + Drop + Send + 'static, I: Source + Drop>(
     rt: &HostRuntime,
+    handle: H,
     input: I,
     path: &str,
-    compact: Option<Thresholds>,
+    options: Options,
     errors: &mut Stderr,
 ) -> u8 {
     let alloc = rt.alloc();
@@ -75,17 +82,14 @@ fn serve_input<I: Source + Drop>(
         return 1;
     };
     let mut buffers = Buffers::new(alloc);
-    match open(rt, path, compact) {
-        Ok(
-            Opening {
-                mut host,
-                torn,
-                reports,
-            },
-        ) => {
-            tell_ignored(&torn, &reports, errors);
-            let status = serve_session(&mut host, &mut reader, &mut writer, &mut buffers);
-            tell_faults(host.background.faults(), errors);
+    match open(rt, path, options) {
+        Ok(opening) => {
+            tell_ignored(&opening, errors);
+            let (served, ended) = begin(rt, handle, path, options, opening.host, errors);
+            let status = serve_host(served, &mut reader, &mut writer, &mut buffers, errors);
+            if let Some(ended) = ended {
+                wait_for_end(&handle, &ended);
+            }
             status
         }
         Err(fault) => {
@@ -96,6 +100,41 @@ fn serve_input<I: Source + Drop>(
     }
 }
 
+/// Returns what a session calls. Begins to write hints, unless the options forbid it or there is no
+/// thread, which it reports; also returns what ends with the thread.
+fn begin<H: Threads + Wait + Copy + Drop + Send + 'static>(
+    rt: &HostRuntime,
+    handle: H,
+    path: &str,
+    options: Options,
+    host: Host<ServedDisk, KeptFile>,
+    errors: &mut Stderr,
+) -> (Served<H>, Option<Receiver<()>>) {
+    if !options.hints {
+        return (Served::new(host, handle, None), None);
+    }
+    match Hinting::new(rt, handle, path) {
+        Some(Hinting { due, ended }) => (Served::new(host, handle, Some(due)), Some(ended)),
+        None => {
+            let _ = writeln!(errors, "note hint not written: no memory or no thread");
+            (Served::new(host, handle, None), None)
+        }
+    }
+}
+
+/// Serves a session, and reports how many steps of the compaction failed.
+fn serve_host<H: Wait + Drop, R: Input, W: Write>(
+    mut served: Served<H>,
+    reader: &mut R,
+    writer: &mut W,
+    buffers: &mut Buffers,
+    errors: &mut Stderr,
+) -> u8 {
+    let status = serve_session(&mut served, reader, writer, buffers);
+    tell_faults(served.host.background.faults(), errors);
+    status
+}
+
 /// Reports how many steps of the compaction failed, if any did.
 fn tell_faults(faults: u64, errors: &mut Stderr) {
     if faults > 0 {
@@ -103,17 +142,20 @@ fn tell_faults(faults: u64, errors: &mut Stderr) {
     }
 }
 
-/// Reports which manifests ended torn, and what is ignored of logs.
-fn tell_ignored(torn: &[TornFile], reports: &[Report], errors: &mut Stderr) {
-    for TornFile { name, torn } in torn {
+/// Reports which manifests ended torn, what is ignored of logs, and which hints are not used.
+fn tell_ignored(opening: &Opening, errors: &mut Stderr) {
+    for TornFile { name, torn } in &opening.torn {
         let _ = writeln!(
             errors,
             "torn manifest: the last {} bytes of {name} are no record; {} is a copy",
             torn.bytes, torn.copy
         );
     }
-    for report in reports {
+    for report in &opening.reports {
         let _ = writeln!(errors, "note {report}");
+    }
+    for Unused { log, why } in &opening.unused {
+        let _ = writeln!(errors, "note hint not used: log {log}: {why}");
     }
 }
 

@@ -7,7 +7,7 @@ mod row;
 #[cfg(test)]
 mod tests;
 
-use bk_commands::{Book, FailedCalls, Opening, open_or_make, tell};
+use bk_commands::{Book, FailedCalls, Hints, Opening, open_or_make, tell};
 use bk_disk::{LogDisk, MemDisk};
 use bk_drive::{Recorder, RecordsNothing};
 use bk_load::{Load, Recorded, Report, run_load};
@@ -103,7 +103,7 @@ fn load_and_show<T: Threads + Wait + Clock + Sync, W: Write, E: Write>(
             load_on(rt, threads, MemDisk::new(rt.alloc()), call.load, recorded)?
         }
         Some(path) => {
-            let opened = open_or_make(rt, path, call.no_manifest)?;
+            let opened = open_or_make(rt, path, call.no_manifest, Hints::Ignored)?;
             opened.tell(call.form, errors);
             let Opening { disk, book, .. } = opened;
             *failed = Some(disk.failed_calls()?);

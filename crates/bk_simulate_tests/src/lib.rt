@@ -1,4 +1,4 @@
-//! Tests of `bk_sim_disk` and `bk_simulation`.
+//! Tests of `bk_sim_disk`, `bk_simulation` and `bk_simulation_page`.
 #![tactic(auto)]
 
 #[cfg(test)]

@@ -1,4 +1,5 @@
 //! Tests over public calls.
 
 mod disks;
+mod pages;
 mod runs;

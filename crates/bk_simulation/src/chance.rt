@@ -1,5 +1,7 @@
 //! Random choices, by integers alone, so that each run of a seed is the same.
 
+ghost use Rattle.std.specs.Prelude.{◌≤◌, ◌*◌};
+
 use rand_core::Rng;
 use rand_pcg::Pcg32;
 
@@ -22,14 +24,18 @@ impl Chance {
 
     /// Returns an exponential number of mean 1 / ln 2, as a fraction of 16 bits: the negative binary
     /// logarithm of a uniform number.
-    pub(crate) fn halvings(&mut self) -> u64 {
+    pub(crate) fn halvings(&mut self) -> u64
+        ensures { result ≤ 32 * 65536 }
+    {
         minus_log2(self.0.next_u32())
     }
 }
 
 /// Returns the negative binary logarithm of `(word + 1) / 2^32`, as a fraction of 16 bits, rounded
 /// up.
-pub(crate) fn minus_log2(word: u32) -> u64 {
+pub(crate) fn minus_log2(word: u32) -> u64
+    ensures { result ≤ 32 * 65536 }
+{
     let number = u64::from(word).saturating_add(1);
     let whole = u64::from(63u32.saturating_sub(number.leading_zeros().min(63)));
     let mut part = number << 31u64.saturating_sub(whole).min(31);

@@ -2,11 +2,8 @@
 //!
 //! A cost is a fixed part and parts for each thing that the call visits.
 
-/// Bytes of memory of a key in the index and the accounts.
-pub const INDEX_BYTES: u64 = 48;
-
-/// Bytes of memory of a mark of the trail, while it is stored nearly twice.
-pub const TRAIL_BYTES: u64 = 94;
+ghost use Rattle.std.specs.Prelude.{◌≡◌, ◌+◌, ◌*◌};
+ghost use Rattle.bk_simulation.specs.Numbers.{in_64_bits};
 
 /// Instructions of the parts of calls.
 #[derive(Clone, Copy, Debug, PartialEq, Eq)]
@@ -71,6 +68,8 @@ impl Cost {
 }
 
 /// Returns a fixed part and a part for each of `count`.
-pub(crate) fn linear(fixed: u64, each: u64, count: u64) -> u64 {
+pub(crate) fn linear(fixed: u64, each: u64, count: u64) -> u64
+    ensures { result ≡ in_64_bits (fixed + each * count) }
+{
     fixed.saturating_add(each.saturating_mul(count))
 }

@@ -1,6 +1,6 @@
 //! The deletions to come, in the order of their times.
 
-ghost use Rattle.std.specs.Prelude.{◌≤◌, IfSome};
+ghost use Rattle.std.specs.Prelude.{◌≡◌, ◌≤◌, ◌∷◌, ℕ, IfSome};
 
 use std::alloc::{AllocError, Global};
 use std::collections::BTreeSet;
@@ -27,7 +27,10 @@ impl Deaths {
     }
 
     /// Takes out the next ledger that is deleted up to a time.
-    pub(crate) fn next(&mut self, now: u64) -> Option<u64> {
+    pub(crate) fn next(&mut self, now: u64) -> Option<u64>
+        ensures { IfSome result (λ ledger. (time : ℕ) × (time ≤ now)
+            × (self.old.times.keys ≡ (time, ledger) ∷ self.new.times.keys)) }
+    {
         let (time, _) = *self.times.first()?;
         if time > now {
             return None;

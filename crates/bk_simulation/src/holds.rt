@@ -1,6 +1,6 @@
 //! The holds of the lock: how many of which length, and the longest of each call.
 
-ghost use Rattle.std.specs.Prelude.{◌≤◌};
+ghost use Rattle.bk_simulation.specs.Numbers.{HasSevenDigits};
 
 use std::alloc::{AllocError, Global};
 use std::collections::BTreeMap;
@@ -80,7 +80,7 @@ pub struct Holds {
 
 /// Returns a number rounded down to seven binary digits.
 pub(crate) fn rounded(cost: u64) -> u64
-    ensures { result ≤ cost }
+    ensures { HasSevenDigits cost result }
 {
     let digits = 64u32.saturating_sub(cost.leading_zeros());
     let shift = digits.saturating_sub(7).min(63);

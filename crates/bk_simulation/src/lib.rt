@@ -2,6 +2,7 @@
 //! with flushes and compactions as a bookie's workers do them.
 #![tactic(auto)]
 
+mod alarm;
 mod calls;
 mod chance;
 mod compacting;
@@ -12,6 +13,7 @@ mod figures;
 mod flushing;
 mod holds;
 mod load;
+mod memory;
 mod month;
 mod outcome;
 mod plan;
@@ -20,10 +22,11 @@ mod row;
 mod tally;
 mod writers;
 
-pub use cost::{Cost, INDEX_BYTES, TRAIL_BYTES};
+pub use cost::Cost;
 pub use fault::SimFault;
 pub use holds::{Call, Holds, Longest};
 pub use load::{Load, Scale, Upkeep};
+pub use memory::{TRAIL_BYTES, index_bytes};
 pub use month::simulate;
 pub use outcome::{Outcome, Sample};
 pub use plan::{Plan, PlanFault};

@@ -1,5 +1,6 @@
 //! A run: records come in one after another, and between them what is due is done.
 
+use crate::alarm::{Alarm, SECOND};
 use crate::calls::{
     SimStore, add_entry, counts_of, delete_ledger, live_bytes, logs_of, open_store, sizes_of,
 };
@@ -17,9 +18,6 @@ use std::alloc::Global;
 
 /// Number of samples of a run.
 const SAMPLES: u64 = 120;
-
-/// Millionths of a second in a second.
-const SECOND: u64 = 1_000_000;
 
 /// The store and what is counted of it.
 #[derive(Drop)]
@@ -131,33 +129,6 @@ impl<D: LogDisk> Bookie<D> {
             logs,
             keys: self.plan.entries(keys),
         }
-    }
-}
-
-/// The times of what is done again and again, in millionths of a second.
-#[derive(Clone, Copy)]
-struct Alarm {
-    every: u64,
-    next: u64,
-}
-
-impl Alarm {
-    /// Returns an alarm of so many seconds; 0: never.
-    fn new(seconds: u64) -> Alarm {
-        let every = seconds.saturating_mul(SECOND);
-        Alarm {
-            every,
-            next: if every == 0 { u64::MAX } else { every },
-        }
-    }
-
-    /// Returns whether it is time, and moves on if it is.
-    fn rings(&mut self, now: u64) -> bool {
-        if now < self.next {
-            return false;
-        }
-        self.next = now.saturating_add(self.every);
-        true
     }
 }
 

@@ -1,6 +1,9 @@
 //! The plan of a run: its parts checked, and the settings of the simulated store.
 
-ghost use Rattle.std.specs.Prelude.{◌≤◌, ◌<◌, IfOk};
+ghost use Rattle.std.specs.Prelude.{◌≡◌, ◌↔◌, ◌≤◌, ◌<◌, ◌*◌, ◌/◌, ◌^◌, max, IsTrue, IfOk, IfErr, IsErrOf};
+ghost use Rattle.bk_store.specs.Limits.{IsAllowed};
+ghost use Rattle.bk_simulation.specs.Numbers.{in_64_bits};
+ghost use Rattle.bk_simulation.specs.Ranges.{IsLoad, IsRecordSize, IsScale, IsRunPlan};
 
 use crate::{Load, Scale, Upkeep};
 use bk_record::{HEADER_LENGTH, MAX_CACHE_LIMIT, MAX_LOG_LIMIT, RECORD_HEAD};
@@ -67,7 +70,12 @@ impl Plan {
     /// - `Settings`: a setting of the real store is out of range.
     /// - `Batch`: a log has no room for eight records, or a cache none for one.
     /// - `Long`: the run has more than 1,000,000,000 records.
-    pub fn new(load: Load, upkeep: Upkeep, scale: Scale) -> Result<Plan, PlanFault> {
+    pub fn new(load: Load, upkeep: Upkeep, scale: Scale) -> Result<Plan, PlanFault>
+        ensures plan { IfOk result (λ plan. IsRunPlan load upkeep scale plan) }
+        ensures load { IsErrOf result PlanFault.Load ↔ ¬ (IsLoad load × IsScale scale) }
+        ensures settings { IsErrOf result PlanFault.Settings
+            ↔ (IsLoad load × IsScale scale × ¬ (IsAllowed upkeep.settings)) }
+    {
         if !is_load(&load) || !is_scale(&scale) {
             return Err(PlanFault::Load);
         }
@@ -93,19 +101,25 @@ impl Plan {
     }
 
     /// Returns the real bytes of these simulated bytes of records.
-    pub fn real(&self, bytes: u64) -> u64 {
+    pub fn real(&self, bytes: u64) -> u64
+        ensures { result ≡ in_64_bits (bytes / max self.now.scale.«record» 1 * self.now.unit) }
+    {
         let records = bytes / u64::from(self.scale.record).max(1);
         records.saturating_mul(self.unit)
     }
 
     /// Returns the number of real entries of this number of simulated ones.
-    pub fn entries(&self, records: u64) -> u64 {
+    pub fn entries(&self, records: u64) -> u64
+        ensures { result ≡ in_64_bits (records * self.now.scale.batch) }
+    {
         records.saturating_mul(self.scale.batch)
     }
 }
 
 /// Returns whether each number of the load is in its range.
-fn is_load(load: &Load) -> bool {
+fn is_load(load: &Load) -> bool
+    ensures { IsTrue result ↔ IsLoad load.now }
+{
     is_record(load.entry)
         && 0 < load.seconds
         && load.seconds < 1 << 40
@@ -118,18 +132,25 @@ fn is_load(load: &Load) -> bool {
 }
 
 /// Returns whether each number of the scale is in its range.
-fn is_scale(scale: &Scale) -> bool {
+fn is_scale(scale: &Scale) -> bool
+    ensures { IsTrue result ↔ IsScale scale.now }
+{
     is_record(u64::from(scale.record)) && 0 < scale.batch && scale.batch <= 1 << 20
 }
 
 /// Returns whether a record can have this many bytes.
-fn is_record(size: u64) -> bool {
+fn is_record(size: u64) -> bool
+    ensures { IsTrue result ↔ IsRecordSize size }
+{
     RECORD_HEAD as u64 <= size && size <= MOST
 }
 
 /// Returns the settings of the simulated store. A log and a cache have room for as many records as
 /// the real ones have for units.
-fn scaled(real: &Settings, load: &Load, scale: &Scale, unit: u64) -> Result<Settings, PlanFault> {
+fn scaled(real: &Settings, load: &Load, scale: &Scale, unit: u64) -> Result<Settings, PlanFault>
+    ensures allowed { IfOk result (λ settings. IsAllowed settings) }
+    ensures fault { IfErr result (λ fault. fault ≡ PlanFault.Batch) }
+{
     let record = u64::from(scale.record);
     let logs = u64::from(real.log_limit).saturating_sub(HEADER) / unit.max(1);
     let payload = load.entry.saturating_sub(FIELD).max(1);
@@ -152,7 +173,9 @@ fn scaled(real: &Settings, load: &Load, scale: &Scale, unit: u64) -> Result<Sett
 }
 
 /// Returns the millionths of a second in which this many bytes come in, at least 1.
-fn per(bytes: u64, rate: u64) -> u64 {
+fn per(bytes: u64, rate: u64) -> u64
+    ensures { 1 ≤ result }
+{
     let time = u128::from(bytes).saturating_mul(DAY) / u128::from(rate.max(1));
     time.max(1).min(u128::from(u64::MAX)) as u64
 }

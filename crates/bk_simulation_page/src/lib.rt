@@ -1,6 +1,7 @@
 //! A page on the runs of a simulation: one HTML file that loads nothing.
 #![tactic(auto)]
 
+mod load;
 mod markup;
 mod page;
 mod picture;

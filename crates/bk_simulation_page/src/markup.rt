@@ -26,20 +26,24 @@ h2 { font-size: 1.15rem; margin: 2.2rem 0 .4rem; }
 table { border-collapse: collapse; width: 100%; font-variant-numeric: tabular-nums; font-size: .9rem; }
 th, td { padding: .25rem .42rem; text-align: right; border-bottom: 1px solid var(--line); white-space: nowrap; }
 th { font-weight: 600; color: var(--quiet); white-space: normal; vertical-align: bottom; }
-th[colspan] { text-align: center; }
+th[colspan] { text-align: center; white-space: nowrap; }
 th.text, td.text { text-align: left; }
 th.name, td.name { text-align: left; position: sticky; left: 0; background: var(--paper); }
 svg { display: block; width: 100%; max-width: 52rem; margin: .4rem 0 .8rem; }
 svg text { fill: var(--quiet); font: 12px system-ui, sans-serif; }
 .grid { stroke: var(--line); }
-polyline { fill: none; stroke-width: 2; }
+.grid, polyline { vector-effect: non-scaling-stroke; }
+polyline { fill: none; stroke-width: 1.8; stroke-linejoin: round; }
 .live { stroke: var(--live); color: var(--live); }
 .disk { stroke: var(--disk); color: var(--disk); }
 .logs { stroke: var(--logs); color: var(--logs); }
-span.live, span.disk, span.logs { font-weight: 600; }
+span.live, span.disk, span.logs { font-weight: 600; margin-right: 1em; white-space: nowrap; }
+span.live::before, span.disk::before, span.logs::before {
+  content: \"\"; display: inline-block; width: 1.4em; margin-right: .35em; border-top: 3px solid; vertical-align: .25em;
+}
 @media (max-width: 40rem) {
   body { padding: 1rem; }
-  svg text { font-size: 20px; }
+  svg text { font-size: 24px; }
 }
 ";
 
@@ -49,19 +53,19 @@ pub(crate) static BEGIN: &str = "</style>
 <header>
 <h1>Simulation of a bookie</h1>
 <p class=\"quiet\">The store ran over a disk that keeps lengths and keys of records, and no data. Each
-simulated record represents as many entries of one ledger as the last column says. Thresholds are in
-thousandths. Means, and the peak of the amplification of space, are those of the second half of a
-run. A hold of the lock is counted in instructions; one in a thousand takes more than the first of
-the two numbers.</p>
+simulated record represents as many entries of one ledger as the last column says. A log whose live
+part is below a threshold is compacted. Means, and the peak of the amplification of space, are those
+of the second half of a run. A hold of the lock is counted in instructions; one in a thousand takes
+more than the first of the two numbers.</p>
 </header>
 <main>
 ";
 
 pub(crate) static KEY_BYTES: &str =
-    "<span class=\"disk\">all logs</span>, <span class=\"live\">live records</span></p>
+    "<span class=\"disk\">all logs</span> <span class=\"live\">live records</span></p>
 ";
 
-pub(crate) static KEY_LOGS: &str = "<p><span class=\"logs\">logs that are held</span></p>
+pub(crate) static KEY_LOGS: &str = "<p>Number: <span class=\"logs\">logs that are held</span></p>
 ";
 
 pub(crate) static FOOT: &str = "</main>

@@ -1,5 +1,9 @@
 //! The page: the table, and the curves of each run.
 
+ghost use Rattle.std.specs.Prelude.{◌≡◌, ◌↔◌, ◌≤◌, ◌<◌, ◌*◌, ◌/◌, ◌^◌};
+ghost use Rattle.bk_simulation_page.specs.Units.{unit_bytes};
+
+use crate::load::write_settings;
 use crate::markup;
 use crate::picture::{Curve, DAY, Point, write_picture};
 use crate::table::{write_name, write_table};
@@ -31,7 +35,10 @@ enum Unit {
 
 impl Unit {
     /// Returns the unit of a curve with this peak.
-    fn of(peak: u64) -> Unit {
+    fn of(peak: u64) -> Unit
+        ensures kib { result ≡ Unit.Kib ↔ peak < 64 * 2 ^ 20 }
+        ensures gib { result ≡ Unit.Gib ↔ 64 * 2 ^ 30 ≤ peak }
+    {
         if peak < FINE * MIB {
             Unit::Kib
         } else if peak < FINE * GIB {
@@ -42,7 +49,9 @@ impl Unit {
     }
 
     /// Returns bytes in this unit.
-    fn amount(self, bytes: u64) -> u64 {
+    fn amount(self, bytes: u64) -> u64
+        ensures { result ≡ bytes / unit_bytes self }
+    {
         match self {
             Unit::Kib => bytes / KIB,
             Unit::Mib => bytes / MIB,
@@ -60,8 +69,9 @@ impl Unit {
     }
 }
 
-/// Writes the runs as an HTML page: a table, and of each run the bytes of the logs and their number
-/// over its days. The page loads nothing and runs no script.
+/// Writes the runs as an HTML page: the load and the upkeep, of the first run, a table with a row of
+/// each run, and of each run the bytes of the logs and their number over its days. The page loads
+/// nothing and runs no script.
 ///
 /// # Errors
 ///
@@ -70,6 +80,9 @@ pub fn write_page<W: Write>(alloc: Global, out: &mut W, outcomes: &[Outcome]) ->
     out.write_all(markup::HEAD.as_bytes())?;
     out.write_all(markup::STYLE.as_bytes())?;
     out.write_all(markup::BEGIN.as_bytes())?;
+    if let Some(outcome) = outcomes.first() {
+        write_settings(out, outcome)?;
+    }
     write_table(out, outcomes)?;
     for outcome in outcomes {
         write_run(alloc, out, outcome)?;
@@ -86,7 +99,7 @@ fn write_run<W: Write>(alloc: Global, out: &mut W, outcome: &Outcome) -> io::Res
         return Err(io::ErrorKind::OutOfMemory.into());
     };
     let seconds = outcome.plan.load.seconds;
-    write!(out, "<p>{}: ", unit.name())?;
+    write!(out, "<p>Bytes in {}: ", unit.name())?;
     out.write_all(markup::KEY_BYTES.as_bytes())?;
     write_picture(
         out,
@@ -106,9 +119,12 @@ fn write_head<W: Write>(out: &mut W, outcome: &Outcome) -> io::Result<()> {
     write_name(out, outcome)?;
     let minor = settings.minor;
     let major = settings.major;
-    write!(out, " days, thresholds {minor} and {major}, log limit ")?;
+    write!(
+        out,
+        " days; thresholds {minor}\u{2030} and {major}\u{2030}; log limit "
+    )?;
     write_number(out, u64::from(settings.log_limit))?;
-    out.write_all(b"</h2>\n")?;
+    out.write_all(b" bytes</h2>\n")?;
     if let Some(second) = outcome.full_at {
         let tenths = second.saturating_mul(10) / DAY;
         let day = tenths / 10;

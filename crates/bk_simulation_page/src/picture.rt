@@ -1,5 +1,7 @@
 //! Pictures of curves over the days of a run.
 
+ghost use Rattle.std.specs.Prelude.{◌≡◌, ◌≤◌, ◌<◌, ◌*◌, ◌/◌};
+
 use bk_report::write_number;
 use std::io;
 use std::io::Write;
@@ -37,19 +39,32 @@ pub(crate) struct Curve {
 }
 
 /// Returns a part of a length, as an amount is of the most; at most the length.
-fn scaled(amount: u64, most: u64, length: u64) -> u64 {
-    let part = u128::from(amount.min(most)).saturating_mul(u128::from(length));
-    let scaled = part / u128::from(most.max(1));
-    scaled.min(u128::from(length)) as u64
+fn scaled(amount: u64, most: u64, length: u64) -> u64
+    ensures within { result ≤ length }
+    ensures exact { amount ≤ most → 0 < most → result ≡ amount * length / most }
+    ensures full { most < amount → 0 < most → result ≡ length }
+    ensures empty { most ≡ 0 → result ≡ 0 }
+{
+    if most == 0 {
+        return 0;
+    }
+    if amount > most {
+        return length;
+    }
+    (u128::from(amount) * u128::from(length) / u128::from(most)) as u64
 }
 
 /// Returns the place of a time from the left, in a run of these seconds.
-fn place(time: u64, seconds: u64) -> u64 {
+fn place(time: u64, seconds: u64) -> u64
+    ensures { (90 ≤ result) × (result ≤ 750) }
+{
     LEFT.saturating_add(scaled(time, seconds, WIDTH))
 }
 
 /// Returns the place of an amount from the top.
-fn level(amount: u64, most: u64) -> u64 {
+fn level(amount: u64, most: u64) -> u64
+    ensures { (20 ≤ result) × (result ≤ 220) }
+{
     BOTTOM.saturating_sub(scaled(amount, most, HEIGHT))
 }
 
@@ -65,7 +80,9 @@ fn most_of(curves: &[Curve]) -> u64 {
 }
 
 /// Returns a round number, 1, 2 or 5 times a power of ten, which is not less than this one.
-fn round_step(least: u64) -> u64 {
+fn round_step(least: u64) -> u64
+    ensures { least ≤ result }
+{
     let mut step = 1u64;
     for turn in 0..58u32 {
         if step >= least {
@@ -95,7 +112,7 @@ pub(crate) fn write_picture<W: Write>(
     let step = round_step(most.div_ceil(LEVELS)).max(1);
     let levels = most.div_ceil(step).max(1);
     let top = step.saturating_mul(levels);
-    out.write_all(b"<svg role=\"img\" viewBox=\"0 0 800 256\"><title>")?;
+    out.write_all(b"<svg role=\"img\" viewBox=\"0 0 800 266\"><title>")?;
     out.write_all(title.as_bytes())?;
     out.write_all(b"</title>\n")?;
     for number in 0..=levels {
@@ -139,7 +156,7 @@ fn write_day<W: Write>(out: &mut W, day: u64, seconds: u64) -> io::Result<()> {
     let at = place(day.saturating_mul(DAY), seconds);
     write!(
         out,
-        "<text x=\"{at}\" y=\"244\" text-anchor=\"middle\">day {day}</text>\n"
+        "<text x=\"{at}\" y=\"252\" text-anchor=\"middle\">day {day}</text>\n"
     )
 }
 

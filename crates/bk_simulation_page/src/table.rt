@@ -16,13 +16,13 @@ static HEAD: &str =
     "<div class=\"scroll\" tabindex=\"0\" role=\"region\" aria-label=\"runs\"><table>
 <tr>
 <th class=\"name\" rowspan=\"2\">retention, days</th>
-<th colspan=\"2\">thresholds</th>
+<th colspan=\"2\">thresholds, \u{2030}</th>
 <th rowspan=\"2\">log limit, KiB</th>
 <th colspan=\"3\">amplification</th>
 <th colspan=\"2\">logs</th>
 <th rowspan=\"2\">index, MiB</th>
 <th colspan=\"2\">compactions</th>
-<th colspan=\"3\">holds</th>
+<th colspan=\"3\">holds, instructions</th>
 <th rowspan=\"2\">entries a record</th>
 </tr>
 <tr>
@@ -30,7 +30,7 @@ static HEAD: &str =
 <th>write</th><th>space</th><th>peak</th>
 <th>mean</th><th>peak</th>
 <th>number</th><th>moved, MiB</th>
-<th>99.9 %</th><th>longest</th><th class=\"text\">call</th>
+<th>99.9\u{a0}%</th><th>longest</th><th class=\"text\">call</th>
 </tr>
 ";
 
@@ -43,12 +43,14 @@ pub(crate) fn write_table<W: Write>(out: &mut W, outcomes: &[Outcome]) -> io::Re
     out.write_all(b"</table></div>\n")
 }
 
-/// Writes the name of a run: its retention.
+/// Writes the name of a run: its retention, in days with one place, rounded down.
 pub(crate) fn write_name<W: Write>(out: &mut W, outcome: &Outcome) -> io::Result<()> {
     let retention = outcome.plan.load.retention;
-    let days = retention.mean / DAY;
+    let tenths = retention.mean.saturating_mul(10) / DAY;
+    let days = tenths / 10;
+    let part = tenths % 10;
     out.write_all(retention.kind.name().as_bytes())?;
-    write!(out, " {days}")
+    write!(out, " {days}.{part}")
 }
 
 /// Writes a row.

@@ -1,14 +1,14 @@
 //! The commands that count the entries of live ledgers.
 
 use crate::row::CommandRow;
-use crate::words::{DEAD, DEAD_FILE, LIVE_FILE, LIVE_NONE, NO_MANIFEST};
+use crate::words::{DEAD, DEAD_FILE, LIVE_FILE, LIVE_NONE, NO_HINTS, NO_MANIFEST};
 
 /// In the order of the help.
 pub static COUNTING: &[CommandRow] = &[
     CommandRow {
         name: "stat",
         operands: &[],
-        options: &[DEAD, DEAD_FILE, LIVE_FILE, LIVE_NONE, NO_MANIFEST],
+        options: &[DEAD, DEAD_FILE, LIVE_FILE, LIVE_NONE, NO_MANIFEST, NO_HINTS],
         summary: "Show the entries and live bytes of each log",
         help: "\
 Prints one line per log, by rising id: `ID LENGTH ENTRIES BYTES LIVE SHARE STATE`. ENTRIES is the
@@ -23,6 +23,9 @@ name, and with --live-file or --live-none each ledger of DIR that no such file l
 
 If a log cannot be read to its end, `fault log ID: TEXT` goes to the error stream, and the log is
 counted up to there.
+
+A sealed log that has a hint (`bookie hint`) is not read: its hint is. A hint that may not be used is
+noted on the error stream, `note hint not used: log ID: REASON`, and the log is read.
 
 Exit status: 0, 1 on a fault, 2 if the command line is wrong.
 

@@ -2,8 +2,8 @@
 
 use crate::row::CommandRow;
 use crate::words::{
-    DATA, DIGEST, ENTRY, FIRST, FROM, HEX, LAST, LEDGER, LOG, LONG, NO_MANIFEST, OF_LEDGER, QUICK,
-    RAW,
+    DATA, DIGEST, ENTRY, FIRST, FROM, HEX, LAST, LEDGER, LOG, LONG, NO_HINTS, NO_MANIFEST,
+    OF_LEDGER, QUICK, RAW,
 };
 
 /// In the order of the help.
@@ -90,7 +90,7 @@ Example:
     CommandRow {
         name: "ledgers",
         operands: &[],
-        options: &[NO_MANIFEST],
+        options: &[NO_MANIFEST, NO_HINTS],
         summary: "List the ledgers with their records and bytes",
         help: "\
 Prints one line per ledger, rising: `LEDGER RECORDS BYTES FIRST LAST LOGS`. RECORDS is the number of
@@ -99,6 +99,9 @@ of logs with a record. An entry with two records counts twice.
 
 If a log's header is invalid, or a log cannot be read to its end, `fault log ID: TEXT` goes to the
 error stream, and the log is counted as far as it can be read.
+
+A sealed log that has a hint (`bookie hint`) is not read: its hint is. A hint that may not be used is
+noted on the error stream, `note hint not used: log ID: REASON`, and the log is read.
 
 Exit status: 0, 1 on a fault, 2 if the command line is wrong.
 
@@ -111,7 +114,7 @@ Example:
     CommandRow {
         name: "entries",
         operands: &[LEDGER, FIRST, LAST],
-        options: &[NO_MANIFEST],
+        options: &[NO_MANIFEST, NO_HINTS],
         summary: "List the entries of a ledger with their locations",
         help: "\
 Prints one line per entry of the ledger, rising: `ENTRY LOG AT SIZE`. LOG is the log of its last
@@ -120,6 +123,9 @@ records, the last one counts, by log id, then position.
 
 If a log's header is invalid, or a log cannot be read to its end, `fault log ID: TEXT` goes to the
 error stream, and the log is searched as far as it can be read.
+
+A sealed log that has a hint (`bookie hint`) is not read: its hint is. A hint that may not be used is
+noted on the error stream, `note hint not used: log ID: REASON`, and the log is read.
 
 Exit status: 0, 1 on a fault, 2 if the command line is wrong.
 
@@ -134,7 +140,7 @@ Examples:
     CommandRow {
         name: "export",
         operands: &[LEDGER, FIRST, LAST],
-        options: &[HEX, RAW, NO_MANIFEST],
+        options: &[HEX, RAW, NO_MANIFEST, NO_HINTS],
         summary: "Write the entries of a ledger with their data",
         help: "\
 Writes the entries of the ledger, rising: of each the last record, by log id, then position. By default
@@ -146,6 +152,9 @@ bytes each) and data. All numbers are big-endian. `import` reads that. With --js
 If a log's header is invalid, or a log cannot be read to its end, `fault log ID: TEXT` goes to the
 error stream, and the log is searched as far as it can be read. What can be read is written. A
 deleted ledger is exported like any other, as long as its records are there.
+
+A sealed log that has a hint (`bookie hint`) is not read: its hint is. A hint that may not be used is
+noted on the error stream, `note hint not used: log ID: REASON`, and the log is read.
 
 Exit status: 0 if each entry was written, once; 1 on a fault; 2 if the command line is wrong.
 
@@ -159,15 +168,18 @@ Examples:
     CommandRow {
         name: "find",
         operands: &[LEDGER, ENTRY],
-        options: &[NO_MANIFEST],
+        options: &[NO_MANIFEST, NO_HINTS],
         summary: "Find the last record of an entry",
         help: "\
 Prints `LOG AT DATA`, or `not found`. LOG is the log of the entry's last record, AT the position of
 the payload there, DATA the data in hexadecimal, or `-` if there is none. If an entry has several
-records, the last one counts, by log id, then position. All logs are scanned.
+records, the last one counts, by log id, then position. All logs are searched.
 
 If a log's header is invalid, or a log cannot be read to its end, `fault log ID: TEXT` goes to the
 error stream, and the log is searched as far as it can be read.
+
+A sealed log that has a hint (`bookie hint`) is not read: its hint is. A hint that may not be used is
+noted on the error stream, `note hint not used: log ID: REASON`, and the log is read.
 
 Exit status: 0, also if the entry is not found; 1 on a fault; 2 if the command line is wrong.
 

@@ -2,8 +2,9 @@
 
 use crate::row::CommandRow;
 use crate::words::{
-    ALL_UNSEALED, BELOW, CHECK, CUT_TORN, DEAD, DEAD_FILE, DRY_RUN, FILE, INDEX_IS_REBUILT,
-    LIVE_FILE, LIVE_NONE, MAJOR, MINOR, NO_MANIFEST, REBUILD, SEALED_LOG,
+    ALL_UNSEALED, BELOW, CHECK, CHECK_HINTS, CUT_TORN, DEAD, DEAD_FILE, DRY_RUN, FILE,
+    INDEX_IS_REBUILT, LIVE_FILE, LIVE_NONE, MAJOR, MINOR, NO_HINTS, NO_MANIFEST, REBUILD,
+    SEALED_LOG,
 };
 
 /// In the order of the help.
@@ -20,6 +21,7 @@ pub static WRITING: &[CommandRow] = &[
             LIVE_FILE,
             LIVE_NONE,
             NO_MANIFEST,
+            NO_HINTS,
             DRY_RUN,
             INDEX_IS_REBUILT,
         ],
@@ -61,6 +63,10 @@ its process. A bookie that runs on the directory does not take the lock: stop it
 may be killed at any moment: every entry of a ledger that is not named is still found, and the next
 call goes on. If the error stream is a terminal, a line there shows the progress.
 
+A sealed log that has a hint is opened by it and not read. A hint that may not be used is noted on the
+error stream, `note hint not used: log ID: REASON`. The hint of a log that is removed is removed; none
+is made: `bookie hint` does that.
+
 Exit status: 0 if all was done; 1 on a fault, `fault TEXT` on the error stream, and what was done
 before stays done; 2 if the command line is wrong.
 
@@ -75,9 +81,54 @@ Examples:
 ",
     },
     CommandRow {
+        name: "hint",
+        operands: &[],
+        options: &[CHECK_HINTS],
+        summary: "Make the hints by which sealed logs are opened",
+        help: "\
+Makes a hint of each sealed log that has none that may be used: a small file beside the log, 1f.hint of
+1f.log, which lists the log's entries. A store that is opened on DIR, and find, entries, ledgers, stat
+and export then read the hint and not the log's records. A bookie ignores the file, and DIR may be
+copied or moved without it. Prints one line per hint that was made, by rising id, as soon as it is
+there: `ID bytes N`, the size of the file. The last line has the numbers of logs: `made N kept N
+unsealed N unfit N removed N`.
+  made      whose hint was made
+  kept      that have a hint that may be used
+  unsealed  that are not sealed and get none: they may still be written
+  unfit     that are sealed, and `check` reports: a record has a bad length, or the map is another one
+  removed   that do not exist, and whose hint was removed
+
+Each log is read to its end, and synced before its hint is written. The command takes no lock: a bookie
+may work in DIR. It may be killed at any moment, and the next call goes on.
+
+A hint is used only if it is whole and fits the log's length, header and ledgers map. One that does not
+fit is noted by the command that reads the log, `note hint not used: log ID: REASON`, and made again by
+the next call of this one. With --no-hints a command uses none. check and scan use none.
+
+With --check nothing is written. Prints one line per log, by rising id: `ID STATE`. STATE is
+  right           it may be used, and is the one that a scan of the log makes; the log is read for it
+  wrong REASON    it may not be used, or a scan of the log makes another one or none
+  none            the log is sealed, and has no hint
+  unsealed        the log is not sealed, and has no hint
+  no log          there is a hint and no log. Nothing reads it
+
+Exit status: 0; 1 on a fault, `fault log ID: TEXT` on the error stream if a log cannot be read or its
+hint not be written, and the next log is taken, or if --check finds a wrong hint; 2 if the command line
+is wrong.
+
+Examples:
+  $ ./bookie hint /var/bookie/current
+  0 bytes 64
+  made 1 kept 0 unsealed 1 unfit 0 removed 0
+  $ ./bookie hint --check /var/bookie/current
+  0 right
+  3 unsealed
+",
+    },
+    CommandRow {
         name: "import",
         operands: &[FILE],
-        options: &[DEAD, DEAD_FILE, NO_MANIFEST],
+        options: &[DEAD, DEAD_FILE, NO_MANIFEST, NO_HINTS],
         summary: "Add the entries of a file of records",
         help: "\
 Opens a store on the logs of DIR, which is created if it does not exist, and adds the entries of FILE, as
@@ -88,6 +139,10 @@ unchanged, and its data is not compared. FILE is read once, in pieces.
 A ledger that --dead or --dead-file names, or that the directory's manifest records, is deleted in DIR:
 its entries are refused. The manifest records those that are named. A record that is
 none ends the command: `bad record at N` has its first byte.
+
+A sealed log that has a hint is opened by it and not read. A hint that may not be used is noted on the
+error stream, `note hint not used: log ID: REASON`. No hint is made of
+the new logs: `bookie hint` does that.
 
 One program at a time writes to a directory. If another one does, the command is refused and names
 its process. A bookie that runs on the directory does not take the lock: stop it first. A stock bookie's own

@@ -3,7 +3,7 @@
 use super::compact::fill;
 use super::folder::{Row, TOLD, anew, check};
 use super::{holds, run};
-use bk_commands::{FailedCalls, OpeningDisk, open_or_make};
+use bk_commands::{FailedCalls, Hints, OpeningDisk, open_or_make};
 use bk_disk::{DiskFault, LogDisk, LogView};
 use bk_inspect::Form;
 use std::fs::{self, OpenOptions};
@@ -48,7 +48,7 @@ fn a_compaction_names_the_file_that_cannot_be_listed(rt: HostRuntime) -> Result<
 /// Makes a directory and opens it, with log 5 of 2000 bytes.
 fn opened(rt: &HostRuntime, folder: &str) -> Result<OpeningDisk, Fail> {
     anew(rt, folder)?;
-    let mut disk = open_or_make(rt, folder, false)?.disk;
+    let mut disk = open_or_make(rt, folder, false, Hints::Used)?.disk;
     disk.create(rt.alloc(), 5)?;
     disk.append(rt.alloc(), 5, &[7; 2000])?;
     Ok(disk)

@@ -2,9 +2,10 @@
 
 use super::HintedDisk;
 use crate::Hints;
+use crate::sample::compare;
 use bk_disk::{DiskFault, LogDisk, LogView};
 use bk_hint_view::HintedView;
-use bk_record::HEADER_LENGTH;
+use bk_record::{HEADER_LENGTH, RECORD_HEAD};
 use std::alloc::Global;
 
 impl<D: LogDisk, H: Hints> LogDisk for HintedDisk<D, H> {
@@ -82,19 +83,26 @@ impl<D: LogDisk, H: Hints> LogDisk for HintedDisk<D, H> {
         };
         let inner = self.inner.view(alloc, log)?;
         let found = self.hints.get(alloc, log);
-        let length = inner.end();
-        let Some(front) = self.uses.front(alloc, log, &found, &header, length) else {
+        let end = inner.end();
+        let Some(front) = self.uses.front(alloc, log, &found, &header, end) else {
             return Ok(HintedView { inner, table: None });
         };
-        let tail = inner.read_at(alloc, front.at, front.left);
-        let table = self.uses.table(alloc, log, &front, &header, tail);
+        let at = front.seal.at;
+        let tail = inner.read_at(alloc, at, end.saturating_sub(at));
+        let mut compared = Ok(());
+        for probe in &front.probes {
+            let mut head = [0u8; RECORD_HEAD];
+            let read = inner.read_into(probe.at, &mut head);
+            compared = compared.and(compare(probe, read, &head));
+        }
+        let table = self.uses.table(alloc, log, &front, &header, tail, compared);
         Ok(HintedView { inner, table })
     }
 
     /// Drops the hint of the log, and removes it.
     fn remove(&mut self, alloc: Global, log: u32) -> Result<(), DiskFault> {
-        let dropped = self.hints.drop_hint(alloc, log);
-        self.believed = self.believed && dropped.is_ok();
+        let forgotten = self.hints.drop_hint(alloc, log);
+        self.believed = self.believed && forgotten.is_ok();
         self.inner.remove(alloc, log)
     }
 }

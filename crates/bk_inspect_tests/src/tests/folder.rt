@@ -3,7 +3,7 @@
 use super::{HELLO_AND_MAP, Row, SEALED, check, done, find};
 use bk_disk::DirDisk;
 use bk_inspect::{
-    DataForm, DirCommand, Ends, EntryRange, FolderCommand, Form, run_folder, run_folder_as,
+    DataForm, DirCommand, Ends, EntryRange, FolderCommand, Form, Hints, run_folder, run_folder_as,
 };
 use std::fs;
 use std::os::unix::fs::symlink;
@@ -72,6 +72,7 @@ fn scan_as_json(rt: &HostRuntime, path: &str, log: u32) -> (u8, Vec<u8>) {
         Form::Json,
         path,
         Ends::Durable,
+        Hints::Used,
         &command,
         &mut output,
         &mut errors,

@@ -1,7 +1,7 @@
 //! What is told as JSON of folders of the system that can't be read, or have a log that can't be.
 
 use super::folder::anew;
-use bk_inspect::{DirCommand, Ends, FolderCommand, Form, run_folder_as};
+use bk_inspect::{DirCommand, Ends, FolderCommand, Form, Hints, run_folder_as};
 use std::fs;
 use std::os::unix::fs::symlink;
 use std::process::Abort;
@@ -23,6 +23,7 @@ fn check_logs(
         Form::Json,
         path,
         Ends::Durable,
+        Hints::Used,
         &FolderCommand::Dir(DirCommand::Logs),
         &mut shown,
         &mut told,

@@ -4,8 +4,10 @@ ghost use Rattle.std.specs.Prelude.{◌≡◌, Err, false};
 ghost use Rattle.bk_disk.specs.declared.fault.DiskFault.TheVariants as faults;
 ghost use Rattle.std.specs.FinMap as map;
 
+use super::hints::hint_of;
 use super::{File, HELLO, OPEN, Row, SEALED_LOG, check, disk_of, done, find, put};
 use bk_disk::{DiskFault, LogDisk, MemDisk, MemView};
+use bk_hint_disk::{HintedDisk, Hints, MemHints};
 use bk_inspect::{Digest, DigestChoice, DirCommand, EntryRange, run_stat};
 use std::alloc::Global;
 use std::process::Abort;
@@ -205,6 +207,30 @@ fn what_a_compaction_moves_is_found_where_it_is(rt: HostRuntime) -> Result<(), F
             &[told],
             "a log that is moved twice",
         );
+    }
+    Ok(())
+}
+
+/// The hints of the log where it is first, and where it is moved to.
+fn hints(rt: &impl Abort, alloc: Global) -> Result<MemHints, Fail> {
+    let mut hints = MemHints::new(alloc);
+    for log in [0u8, 4, 5] {
+        let moved = File { log, ..SEALED_LOG };
+        let mut disk = disk_of(alloc, &[moved])?;
+        let hint = hint_of(alloc, &mut disk, u32::from(log)).expect(rt, "a hint");
+        assert!(rt; hints.put(alloc, u32::from(log), &hint).is_ok());
+    }
+    Ok(hints)
+}
+
+#[test]
+fn what_a_compaction_moves_is_found_by_its_hint(rt: HostRuntime) -> Result<(), Fail> {
+    let alloc = rt.alloc();
+    for row in &moved(&rt) {
+        let hints = hints(&rt, alloc)?;
+        let mut disk = HintedDisk::new(alloc, losing(alloc, &[], 4, 2)?, hints);
+        check(&rt, alloc, &mut disk, &[*row], "a log with hints");
+        assert!(rt; disk.unused().is_empty());
     }
     Ok(())
 }

@@ -12,7 +12,7 @@ use std::alloc::Global;
 const DAY: u64 = 86_400;
 
 /// Six days of 8,000 entries of 100 bytes each in ledgers of 50, which are kept a day.
-const LOAD: Load = Load {
+pub(crate) const LOAD: Load = Load {
     seconds: 6 * DAY,
     rate: 800_000,
     entry: 100,
@@ -25,7 +25,7 @@ const LOAD: Load = Load {
     seed: 7,
 };
 
-const UPKEEP: Upkeep = Upkeep {
+pub(crate) const UPKEEP: Upkeep = Upkeep {
     settings: Settings {
         log_limit: 51_024,
         cache_limit: 4800,

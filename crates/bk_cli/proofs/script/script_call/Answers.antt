@@ -3,7 +3,7 @@ use Rattle.std.proofs.lemmas.Bool.{false≢true}
 use Rattle.clap.specs.Matches.{found_of}
 use Rattle.clap.specs.Simple.{app_of}
 use Rattle.clap.specs.Walk.{rows_of}
-use Rattle.bk_cli.proofs.CommandLines.{taken, rows_met, pair_in, name_in, asked_by, unrecorded_by, refused_by, refused_by_parse, refused_for_memory}
+use Rattle.bk_cli.proofs.CommandLines.{taken, rows_met, pair_in, name_in, asked_by, unrecorded_by, unhinted_by, refused_by, refused_by_parse, refused_for_memory}
 use Rattle.bk_cli.proofs.script.script_call.Goals as goal
 
 pub returns-in_err-matches-clause-refused : goal.returns-in_err-matches-clause-refused
@@ -37,6 +37,14 @@ returns-clause-unrecorded g c =
     let met = rows_met (app_of c.in_ok-command.command) words c.in_ok-matches.matches c.in_ok-command.ensures c.in_ok-matches.ensures.ok.2 in
     let called = sym met ∙ pair_in _ (codes "script") rows (c.in-Some.ensures.found.0 (search rules)) c.in-Some.ensures.rows in
     unrecorded_by words rows called c.read_script.result c.read_script.ensures.unrecorded
+
+pub returns-clause-unhinted : goal.returns-clause-unhinted
+returns-clause-unhinted g c =
+    let words = map g.S.AsStr.text c.args.words.now in
+    let rows = rows_of (found_of c.in-Some.script.now) in
+    let met = rows_met (app_of c.in_ok-command.command) words c.in_ok-matches.matches c.in_ok-command.ensures c.in_ok-matches.ensures.ok.2 in
+    let called = sym met ∙ pair_in _ (codes "script") rows (c.in-Some.ensures.found.0 (search rules)) c.in-Some.ensures.rows in
+    unhinted_by words rows called c.read_script.result c.read_script.ensures.unhinted
 
 pub returns-clause-refused : goal.returns-clause-refused
 returns-clause-refused g c =

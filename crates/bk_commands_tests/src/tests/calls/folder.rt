@@ -25,7 +25,11 @@ pub(super) fn told_of_folder(rt: &impl Abort, alloc: Global, words: &[&str]) -> 
 }
 
 /// Wrong calls of the commands that read a folder, and a part of what is told of each.
-const WRONG_FOLDERS: [(&[&str], &str); 29] = [
+const WRONG_FOLDERS: [(&[&str], &str); 30] = [
+    (
+        &["bk_shell", "scan", "--no-hints", "folder", "0"],
+        "unexpected argument '--no-hints' found",
+    ),
     (
         &["bk_shell", "seal", "folder"],
         "give <LOG> or --all-unsealed\n\nUsage: bookie seal [OPTIONS] <DIR> [LOG]\n",
@@ -239,7 +243,7 @@ fn a_call_on_a_folder(rt: HostRuntime) {
 }
 
 /// Commands on folders, and parts of the help of each.
-const FOLDER_HELP: [(&str, &str); 11] = [
+const FOLDER_HELP: [(&str, &str); 12] = [
     (
         "logs",
         "$ ./bookie logs /var/bookie/current\n  0 1089 sealed",
@@ -254,6 +258,7 @@ const FOLDER_HELP: [(&str, &str); 11] = [
     ("entries", "2 3 1071 20"),
     ("seal", "sealed 3 map 1049 count 1"),
     ("compact", "0 1325 compact 1"),
+    ("hint", "0 bytes 64"),
 ];
 
 #[test]

@@ -3,7 +3,7 @@
 use super::told;
 
 /// What is told of a wrong value and of an unknown word: the part that it has, and one that it has not.
-const TOLD: [(&[&str], &str, &str); 11] = [
+const TOLD: [(&[&str], &str, &str); 12] = [
     (
         &["bk_shell", "script", "--slots", "0"],
         "'0' for '--slots <NUMBER>': not a number from 1 to 65536",
@@ -42,6 +42,11 @@ const TOLD: [(&[&str], &str, &str); 11] = [
     (
         &["bk_shell", "script", "--cachelimit=5"],
         "unexpected argument '--cachelimit' found; there is '--cache-limit'\n",
+        "tip",
+    ),
+    (
+        &["bk_shell", "script", "--no-hint"],
+        "unexpected argument '--no-hint' found; there is '--no-hints'\n",
         "tip",
     ),
     (

@@ -42,7 +42,7 @@ invariant_of-self-in-Ok-put g c = λ honest sure believed.
     let file = g.D.View.LogView.bytes c.in-Ok-view.view in
     let turn = c.in-Ok-view.ensures.transition viewed in
     let there = ap (λ fs. map.get fs c.args.log) turn.2 ∙ turn.0 in
-    let fact = subst (λ (o : Option (Vec ℕ Global)). IfSome o (λ h. IsTrueHint file h.items)) c.in-Ok-Some.field-0-is (c.in-Ok-Some.ensures turn.1) in
+    let fact = subst (λ (o : Option (Vec ℕ Global)). IfSome o (λ h. IsTrueHint file h.items)) c.in-Ok-Some.field-0-is (c.in-Ok-Some.ensures.records turn.1) in
     puts_true _ _ _ c.args.log _ file _ (c.put.ensures.transition s) base there (subst (IsTrueHint file) (sym c.deref-in-Ok-Some.ensures.value) fact)
 
 pub invariant_of-self-in-Err-Memory : goal.invariant_of-self-in-Err-Memory
@@ -56,7 +56,7 @@ invariant_of-self-in-Err-Memory g c = λ honest sure believed.
     let file = g.D.View.LogView.bytes c.in-Ok-view.view in
     let turn = c.in-Ok-view.ensures.transition viewed in
     let there = ap (λ fs. map.get fs c.args.log) turn.2 ∙ turn.0 in
-    let fact = subst (λ (o : Option (Vec ℕ Global)). IfSome o (λ h. IsTrueHint file h.items)) c.in-Ok-Some.field-0-is (c.in-Ok-Some.ensures turn.1) in
+    let fact = subst (λ (o : Option (Vec ℕ Global)). IfSome o (λ h. IsTrueHint file h.items)) c.in-Ok-Some.field-0-is (c.in-Ok-Some.ensures.records turn.1) in
     puts_true _ _ _ c.args.log _ file _ (c.put.ensures.transition s) base there (subst (IsTrueHint file) (sym c.deref-in-Ok-Some.ensures.value) fact)
 
 pub invariant_of-self-in-Ok-Some : goal.invariant_of-self-in-Ok-Some
@@ -70,7 +70,7 @@ invariant_of-self-in-Ok-Some g c = λ honest sure believed.
     let file = g.D.View.LogView.bytes c.in-Ok-view.view in
     let turn = c.in-Ok-view.ensures.transition viewed in
     let there = ap (λ fs. map.get fs c.args.log) turn.2 ∙ turn.0 in
-    let fact = subst (λ (o : Option (Vec ℕ Global)). IfSome o (λ h. IsTrueHint file h.items)) c.in-Ok-Some.field-0-is (c.in-Ok-Some.ensures turn.1) in
+    let fact = subst (λ (o : Option (Vec ℕ Global)). IfSome o (λ h. IsTrueHint file h.items)) c.in-Ok-Some.field-0-is (c.in-Ok-Some.ensures.records turn.1) in
     puts_true _ _ _ c.args.log _ file _ (c.put.ensures.transition s) base there (subst (IsTrueHint file) (sym c.deref-in-Ok-Some.ensures.value) fact)
 
 pub invariant_of-self-in-Ok-None : goal.invariant_of-self-in-Ok-None

@@ -11,11 +11,11 @@ use Rattle.bk_hint_disk.proofs.hinted_disk.log_disk.HintedDiskLogDisk.remove.Goa
 pub invariant_of-self : goal.invariant_of-self
 invariant_of-self g c = λ honest sure believed.
     let was = sym c.remove.ensures.honest ∙ honest in
-    let s = sym c.drop_hint-dropped.ensures.honest ∙ sure in
+    let s = sym c.drop_hint-forgotten.ensures.honest ∙ sure in
     elim c.if-self.branch [
       | then-self w ↦
-          let ok : is_ok c.drop_hint-dropped.result ≡ true = sym w.is_ok-self-inside.ensures.value ∙ sym w.self-is ∙ believed in
-          subst (λ (h : Files). AreTrue h (g.D.LogDisk.files c.remove.new.self)) (sym (dropped _ _ _ _ (c.drop_hint-dropped.ensures.transition s) ok))
+          let ok : is_ok c.drop_hint-forgotten.result ≡ true = sym w.is_ok-self-inside.ensures.value ∙ sym w.self-is ∙ believed in
+          subst (λ (h : Files). AreTrue h (g.D.LogDisk.files c.remove.new.self)) (sym (dropped _ _ _ _ (c.drop_hint-forgotten.ensures.transition s) ok))
           (true_grew _ _ _ (removes_grew _ _ _ _ (c.remove.ensures.transition was)) (true_fewer _ _ _ (c.self.invariant was s w.if-self.true)))
       | else-self w ↦ absurd (let f = sym w.self-is ∙ believed in cc)
     ]

@@ -1,0 +1,5 @@
+//! Hints of logs in memory and in a directory.
+
+mod folder;
+mod logs;
+mod memory;

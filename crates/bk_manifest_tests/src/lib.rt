@@ -1,0 +1,5 @@
+//! Tests of `bk_manifest`.
+#![tactic(auto)]
+
+#[cfg(test)]
+mod tests;
