@@ -2,7 +2,7 @@
 
 use crate::help::PROGRAM;
 use crate::row::{CommandRow, Usage, Value, Word};
-use crate::rows::{counting_rows, reading_rows, row_of, writing_rows};
+use crate::rows::{row_of, tables};
 use crate::words::LOG;
 use bk_decimal::number;
 use bk_disk::log_of;
@@ -352,11 +352,19 @@ fn folder_commands<'a>(alloc: Global) -> Result<Command<'a>, AllocError> {
         .about("Entry log storage of a bookie")
         .subcommand_required(true)
         .arg(json_arg(alloc))?;
-    for row in reading_rows()
-        .iter()
-        .chain(counting_rows())
-        .chain(writing_rows())
-    {
+    for rows in tables() {
+        commands = with_rows(alloc, commands, rows)?;
+    }
+    Ok(commands)
+}
+
+/// Returns a command line with the commands of these rows too.
+fn with_rows<'a>(
+    alloc: Global,
+    mut commands: Command<'a>,
+    rows: &'static [CommandRow],
+) -> Result<Command<'a>, AllocError> {
+    for row in rows {
         commands = commands.subcommand(row.command(alloc)?)?;
     }
     Ok(commands)

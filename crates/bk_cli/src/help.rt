@@ -1,7 +1,7 @@
 //! The help of the program and of `script`, and the list of commands.
 
-use crate::row::Listed;
-use crate::rows::{counting_rows, reading_rows, writing_rows};
+use crate::row::{CommandRow, Listed};
+use crate::rows::{reading_tables, writing_tables};
 use std::fmt;
 use std::fmt::{Display, Formatter};
 
@@ -44,14 +44,29 @@ impl Display for Commands {
     fn fmt<W: fmt::Write>(&self, f: &mut Formatter<W>) -> fmt::Result {
         f.write_str(CALLED)?;
         f.write_str("Inspect a directory of entry logs:\n")?;
-        for row in reading_rows().iter().chain(counting_rows()) {
-            write!(f, "{}", Listed { row })?;
+        for rows in reading_tables() {
+            write!(f, "{}", ListedRows { rows })?;
         }
         f.write_str("\nWrite to a directory of entry logs:\n")?;
-        for row in writing_rows() {
-            write!(f, "{}", Listed { row })?;
+        for rows in writing_tables() {
+            write!(f, "{}", ListedRows { rows })?;
         }
         f.write_str(OTHERS)
+    }
+}
+
+/// A table of commands in the list of commands. The text is a line for each.
+#[derive(Clone, Copy)]
+struct ListedRows {
+    rows: &'static [CommandRow],
+}
+
+impl Display for ListedRows {
+    fn fmt<W: fmt::Write>(&self, f: &mut Formatter<W>) -> fmt::Result {
+        for row in self.rows {
+            write!(f, "{}", Listed { row })?;
+        }
+        Ok(())
     }
 }
 

@@ -16,5 +16,5 @@ pub use folder::{FolderCall, command_of, folder_call, form_of, is_folder_call, j
 pub use help::{ABOUT, Commands, PROGRAM_HELP, VERSION};
 pub use near::near_command_error;
 pub use row::{CommandRow, Value, Word};
-pub use rows::{counting_rows, reading_rows, row_of, writing_rows};
+pub use rows::{reading_tables, row_of, tables, writing_tables};
 pub use script::{DEFAULTS, ScriptCall, script_call, text_of};

@@ -2,7 +2,8 @@
 
 use crate::folder::command_of;
 use crate::help::PROGRAM;
-use crate::rows::{counting_rows, reading_rows, writing_rows};
+use crate::row::CommandRow;
+use crate::rows::tables;
 use clap::error::ErrorKind;
 use clap::{Command, Error};
 use std::alloc::{AllocError, Global};
@@ -34,18 +35,28 @@ pub fn near_command_error<S: AsStr>(
 
 /// Returns the command that differs from a word in one slip.
 fn near_command(alloc: Global, word: &str) -> Result<Option<&'static str>, AllocError> {
-    for row in reading_rows()
-        .iter()
-        .chain(counting_rows())
-        .chain(writing_rows())
-    {
-        if osa_distance(alloc, word, row.name)? == 1 {
-            return Ok(Some(row.name));
+    for rows in tables() {
+        if let Some(name) = near_row(alloc, word, rows)? {
+            return Ok(Some(name));
         }
     }
     for name in OTHERS {
         if osa_distance(alloc, word, name)? == 1 {
             return Ok(Some(name));
+        }
+    }
+    Ok(None)
+}
+
+/// Returns the command of these rows that differs from a word in one slip.
+fn near_row(
+    alloc: Global,
+    word: &str,
+    rows: &'static [CommandRow],
+) -> Result<Option<&'static str>, AllocError> {
+    for row in rows {
+        if osa_distance(alloc, word, row.name)? == 1 {
+            return Ok(Some(row.name));
         }
     }
     Ok(None)

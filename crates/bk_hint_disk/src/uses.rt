@@ -14,8 +14,8 @@ use std::alloc::{AllocError, Global};
 /// The logs whose next view gets its hint, and the hints that were not used.
 #[derive(Drop)]
 pub(crate) struct Uses {
-    /// By rising id.
-    armed: Vec<u32>,
+    /// By rising id, with whether the log's next view gets its hint.
+    armed: Vec<(u32, bool)>,
     unused: Vec<Unused>,
     /// `None` if memory for it was refused.
     watch: Option<UnusedWatch>,
@@ -45,18 +45,22 @@ impl Uses {
 
     /// Has the next view of each of these logs get its hint; none of them if memory is refused.
     pub(crate) fn arm(&mut self, alloc: Global, logs: &[u32]) {
-        self.armed = match logs.to_vec(alloc) {
-            Ok(armed) => armed,
-            Err(_) => Vec::new(alloc),
-        };
+        self.armed = Vec::new(alloc);
+        for log in logs {
+            if self.armed.push((*log, true)).is_err() {
+                self.armed = Vec::new(alloc);
+                return;
+            }
+        }
     }
 
     /// Returns whether a view of the log gets its hint. The next one does not.
     pub(crate) fn take(&mut self, log: u32) -> bool {
-        match self.armed.binary_search(&log) {
+        match self.armed.binary_search_by_key(&log, |armed| armed.0) {
             Ok(place) => {
-                self.armed.remove(place);
-                true
+                let is_armed = self.armed[place].1;
+                self.armed[place].1 = false;
+                is_armed
             }
             Err(_) => false,
         }
