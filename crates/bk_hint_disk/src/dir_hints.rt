@@ -4,14 +4,16 @@ ghost use Rattle.std.specs.Prelude.{false};
 ghost use Rattle.std.specs.FinMap as map;
 
 use crate::{HintStoreFault, Hints};
+use bk_disk::Operation;
 use bk_record::{HEADER_LENGTH, MAX_LOG_LENGTH, RECORD_HEAD};
 use std::alloc::{AllocError, Global};
 use std::fs::{self, File, OpenOptions};
-use std::io::{ErrorKind, Write};
+use std::io::{self, ErrorKind, Write};
 use std::os::unix::fs::{FileExt, MetadataExt};
 
 /// A store of hints in a directory: that of log 31 is the file `1f.hint`. It is written as
-/// `1f.hint.new` and renamed. Nothing is synced: a torn hint does not pass its checksum.
+/// `1f.hint.new` and renamed. Nothing is synced: a torn hint does not pass its checksum. If a `put`
+/// fails, `refused` has the call of the system, and the new file is removed if it can be.
 ///
 /// `get` reads plain files alone (`NotPlain`), of which none is longer than a hint can be
 /// (`TooLong`). The store is not honest: other programs may write the files.
@@ -19,6 +21,18 @@ use std::os::unix::fs::{FileExt, MetadataExt};
 pub struct DirHints {
     rt: HostRuntime,
     folder: String,
+    refused: Option<RefusedPut>,
+}
+
+/// Why a hint was not written: a call of the system that failed.
+#[derive(Debug, Drop)]
+pub struct RefusedPut {
+    /// The file: that of the hint if the new one cannot be renamed to it, else the new one.
+    pub path: String,
+    /// The call.
+    pub operation: Operation,
+    /// Its error.
+    pub reason: io::Error,
 }
 
 impl DirHints {
@@ -27,7 +41,13 @@ impl DirHints {
         Ok(DirHints {
             rt: *rt,
             folder: String::from_str(rt.alloc(), folder)?,
+            refused: None,
         })
+    }
+
+    /// Takes why the last `put` failed; `None` if it did not, or if memory was refused.
+    pub fn refused(&mut self) -> Option<RefusedPut> {
+        self.refused.take()
     }
 
     /// Returns the path of the hint of a log.
@@ -56,22 +76,28 @@ impl DirHints {
         }
     }
 
-    /// Writes a new file of these bytes, in place of one that is there. A link is replaced, and not
-    /// followed.
-    fn write(&self, path: &str, hint: &[u8]) -> Result<(), HintStoreFault> {
-        let _ = fs::remove_file(&self.rt, path);
+    /// Writes a new file of these bytes, in place of one that is there, and renames it. A link is
+    /// replaced, and not followed.
+    fn write(&self, new: &str, path: &str, hint: &[u8]) -> Result<(), (Operation, io::Error)> {
+        let _ = fs::remove_file(&self.rt, new);
         let opened = OpenOptions::new()
             .write(true)
             .create_new(true)
-            .open(&self.rt, path);
+            .open(&self.rt, new);
         let mut file = match opened {
             Ok(file) => file,
-            Err(_) => return Err(HintStoreFault::Disk),
+            Err(reason) => return Err((Operation::Create, reason)),
         };
-        match file.write_all(hint) {
-            Ok(()) => Ok(()),
-            Err(_) => Err(HintStoreFault::Disk),
-        }
+        let refused = match file.write_all(hint) {
+            Ok(()) => match fs::rename(&self.rt, new, path) {
+                Ok(()) => return Ok(()),
+                Err(reason) => (Operation::Rename, reason),
+            },
+            Err(reason) => (Operation::Write, reason),
+        };
+        // It only takes up room. A later call removes it too.
+        let _ = fs::remove_file(&self.rt, new);
+        Err(refused)
     }
 }
 
@@ -113,16 +139,28 @@ impl Hints for DirHints {
     }
 
     fn put(&mut self, alloc: Global, log: u32, hint: &[u8]) -> Result<(), HintStoreFault> {
+        self.refused = None;
         let Ok(path) = self.path(log) else {
             return Err(HintStoreFault::Memory);
         };
         let Ok(next) = format!(in alloc; "{path}.new") else {
             return Err(HintStoreFault::Memory);
         };
-        self.write(next.as_str(), hint)?;
-        match fs::rename(&self.rt, next.as_str(), path.as_str()) {
+        match self.write(next.as_str(), path.as_str(), hint) {
             Ok(()) => Ok(()),
-            Err(_) => Err(HintStoreFault::Disk),
+            Err((operation, reason)) => {
+                let path = if operation == Operation::Rename {
+                    path
+                } else {
+                    next
+                };
+                self.refused = Some(RefusedPut {
+                    path,
+                    operation,
+                    reason,
+                });
+                Err(HintStoreFault::Disk)
+            }
         }
     }
 

@@ -16,7 +16,7 @@ mod uses;
 mod why_not;
 
 pub use checking::check_hint;
-pub use dir_hints::DirHints;
+pub use dir_hints::{DirHints, RefusedPut};
 pub use fault::{HintStoreFault, MakeFault};
 pub use hinted_disk::HintedDisk;
 pub use hints::Hints;

@@ -40,7 +40,10 @@ pub fn check_hints<S: SeesStates>(
                     return Ok(());
                 }
             }
-            Err(fault) => sees.fail(&LogFault::of(alloc, path, *log, fault, &watch)?),
+            Err(fault) => {
+                let why = LogReason::of(alloc, fault, &watch, None)?;
+                sees.fail(&LogFault { log: *log, why });
+            }
         }
     }
     for log in &names.hints {

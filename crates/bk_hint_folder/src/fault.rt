@@ -1,8 +1,9 @@
 //! Why the hints of a directory are not made or compared.
 
-use bk_disk::{FaultWatch, FileFault, FolderFault};
-use bk_hint_disk::MakeFault;
+use bk_disk::{FaultWatch, FileFault, FolderFault, Operation};
+use bk_hint_disk::{MakeFault, RefusedPut};
 use std::alloc::{AllocError, Global};
+use std::io;
 use thiserror::Error;
 
 /// Why the hints of a directory are not made or compared. Logs of lower ids may have theirs.
@@ -41,31 +42,53 @@ pub enum LogReason {
     /// The log cannot be read.
     #[error("{0}")]
     Fault(MakeFault),
-    /// The hint's file cannot be written. Its path.
-    #[error("disk: {0}: write refused")]
-    Hint(String),
+    /// The hint cannot be written, or the log not be looked up: the file, the call of the system and
+    /// its error.
+    #[error("disk: {path}: {operation}: {reason}")]
+    Refused {
+        path: String,
+        operation: Operation,
+        reason: io::Error,
+    },
     /// A write or a sync of the log failed earlier, and it was not written again since.
     #[error("set aside: a write or sync of it failed; the next program that writes here writes it again")]
     Aside,
 }
 
-impl LogFault {
-    /// Returns the fault of a log of the directory at a path. The watch has the call that failed.
+impl From<RefusedPut> for LogReason {
+    fn from(refused: RefusedPut) -> LogReason {
+        let RefusedPut {
+            path,
+            operation,
+            reason,
+        } = refused;
+        LogReason::Refused {
+            path,
+            operation,
+            reason,
+        }
+    }
+}
+
+impl LogReason {
+    /// Returns the reason of a fault on a log. The watch has the call of the disk that failed,
+    /// `refused` that of a put.
     pub(crate) fn of(
         alloc: Global,
-        path: &str,
-        log: u32,
         fault: MakeFault,
         watch: &FaultWatch,
-    ) -> Result<LogFault, AllocError> {
-        let why = match fault {
-            MakeFault::Store => LogReason::Hint(format!(in alloc; "{path}/{log:x}.hint")?),
-            MakeFault::Disk => match watch.last(alloc)? {
-                Some(call) => LogReason::Call(call),
-                None => LogReason::Fault(fault),
-            },
-            _ => LogReason::Fault(fault),
-        };
-        Ok(LogFault { log, why })
+        refused: Option<RefusedPut>,
+    ) -> Result<LogReason, AllocError> {
+        if fault == MakeFault::Store
+            && let Some(refused) = refused
+        {
+            return Ok(LogReason::from(refused));
+        }
+        if fault == MakeFault::Disk
+            && let Some(call) = watch.last(alloc)?
+        {
+            return Ok(LogReason::Call(call));
+        }
+        Ok(LogReason::Fault(fault))
     }
 }

@@ -2,11 +2,11 @@
 
 use crate::names::Names;
 use crate::{HintingFault, LogFault, LogReason, Outcome, hint_log};
-use bk_disk::{DirDisk, DiskFault, FaultWatch, LogDisk};
-use bk_hint_disk::{DirHints, Hints, MakeFault};
+use bk_disk::{DirDisk, DiskFault, FaultWatch, LogDisk, Operation};
+use bk_hint_disk::{DirHints, Hints};
 use std::alloc::{AllocError, Global};
 use std::fs::{self, Metadata};
-use std::io;
+use std::io::{self, ErrorKind};
 use std::os::unix::fs::MetadataExt;
 
 /// What was done about the hints of a directory.
@@ -132,22 +132,17 @@ impl Writing {
     ) -> Result<bool, AllocError> {
         let alloc = self.rt.alloc();
         let answer = if is_aside {
-            Err(LogFault {
-                log,
-                why: LogReason::Aside,
-            })
+            Err(LogReason::Aside)
         } else {
-            match self.hint(alloc, log)? {
-                Ok(outcome) => Ok(outcome),
-                Err(fault) => Err(LogFault::of(alloc, &self.path, log, fault, &self.watch)?),
-            }
+            self.hint(alloc, log)?
         };
         match answer {
             Ok(outcome) => {
                 self.written.count(outcome);
                 Ok(sees.see(log, outcome))
             }
-            Err(fault) => {
+            Err(why) => {
+                let fault = LogFault { log, why };
                 sees.fail(&fault);
                 self.written.faults.push(fault)?;
                 Ok(true)
@@ -155,18 +150,45 @@ impl Writing {
         }
     }
 
-    /// Makes the hint of a log. Removes it again if the log was removed or replaced meanwhile.
-    fn hint(&mut self, alloc: Global, log: u32) -> Result<Result<Outcome, MakeFault>, AllocError> {
+    /// Makes the hint of a log. Removes it again if the log was removed or replaced meanwhile, or if
+    /// this is not known.
+    fn hint(&mut self, alloc: Global, log: u32) -> Result<Result<Outcome, LogReason>, AllocError> {
         let file = format!(in alloc; "{}/{log:x}.log", self.path)?;
         let before = fs::metadata(&self.rt, file.as_str());
-        let answer = hint_log(alloc, &mut self.disk, &mut self.hints, log);
-        if let Ok(Outcome::Made { .. }) = answer
-            && !is_same(&before, &fs::metadata(&self.rt, file.as_str()))
-        {
-            let _ = self.hints.drop_hint(alloc, log);
-            return Ok(Ok(Outcome::NoLog));
+        match hint_log(alloc, &mut self.disk, &mut self.hints, log) {
+            Ok(made @ Outcome::Made { .. }) => {
+                let after = fs::metadata(&self.rt, file.as_str());
+                Ok(self.keep(log, file, made, is_same(before, after)))
+            }
+            Ok(outcome) => Ok(Ok(outcome)),
+            Err(fault) => {
+                let refused = self.hints.refused();
+                let why = LogReason::of(alloc, fault, &self.watch, refused)?;
+                Ok(Err(why))
+            }
         }
-        Ok(answer)
+    }
+
+    /// Keeps the hint that was made of a log if its file is the same as before, else removes it.
+    fn keep(
+        &mut self,
+        log: u32,
+        path: String,
+        made: Outcome,
+        is_same: io::Result<bool>,
+    ) -> Result<Outcome, LogReason> {
+        if let Ok(true) = is_same {
+            return Ok(made);
+        }
+        let _ = self.hints.drop_hint(self.rt.alloc(), log);
+        match is_same {
+            Ok(_) => Ok(Outcome::NoLog),
+            Err(reason) => Err(LogReason::Refused {
+                path,
+                operation: Operation::Open,
+                reason,
+            }),
+        }
     }
 
     /// Removes the hints of logs that do not exist.
@@ -209,13 +231,22 @@ impl Written {
 }
 
 /// Returns whether a name led to the same file of the same length twice.
-fn is_same(before: &io::Result<Metadata>, after: &io::Result<Metadata>) -> bool {
-    match (before, after) {
-        (Ok(before), Ok(after)) => {
+fn is_same(before: io::Result<Metadata>, after: io::Result<Metadata>) -> io::Result<bool> {
+    match (found(before)?, found(after)?) {
+        (Some(before), Some(after)) => Ok(
             before.dev() == after.dev()
                 && before.ino() == after.ino()
-                && before.len() == after.len()
-        }
-        _ => false,
+                && before.len() == after.len(),
+        ),
+        _ => Ok(false),
+    }
+}
+
+/// Returns what a name leads to, `None` if it leads to nothing.
+fn found(looked_up: io::Result<Metadata>) -> io::Result<Option<Metadata>> {
+    match looked_up {
+        Ok(found) => Ok(Some(found)),
+        Err(error) if error.kind() == ErrorKind::NotFound => Ok(None),
+        Err(error) => Err(error),
     }
 }

@@ -240,7 +240,7 @@ const FAULTS: [Row<'static>; 2] = [
     Row {
         words: &["bk_shell", "hint", "bk_shell_unwritten"],
         output: "made 0 kept 0 unsealed 1 unfit 0 removed 0\n",
-        errors: "fault log 0: disk: bk_shell_unwritten/0.hint: write refused\n",
+        errors: "fault log 0: disk: bk_shell_unwritten/0.hint: rename: Is a directory (os error 21)\n",
         ..TOLD
     },
     Row {

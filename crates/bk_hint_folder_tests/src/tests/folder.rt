@@ -109,7 +109,7 @@ fn hints_that_cannot_be_written(rt: HostRuntime) -> Result<(), Fail> {
     assert!(rt; fs::create_dir(&rt, "bk_hint_folder_faults/1.hint").is_ok());
     let written = write_hints(&rt, FOLDER).expect(&rt, "a run");
     assert_eq!(rt; counts(&written), [1, 0, 2, 0, 0, 1]);
-    assert!(rt; matches!(written.faults[0].why, LogReason::Hint(_)));
+    assert!(rt; matches!(written.faults[0].why, LogReason::Refused { .. }));
     assert_eq!(rt; written.faults[0].log, 1);
     // A link is replaced, and its target stays.
     assert!(rt; fs::remove_dir(&rt, "bk_hint_folder_faults/1.hint").is_ok());
