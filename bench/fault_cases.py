@@ -174,8 +174,16 @@ class ScriptJob(Script):
             steps += ["retire 1", "close 1", "remove 1", "giveup"]
         return [*steps, *flush_steps({(1, 300): "x", (4, 300): "y"}, True), "rebuild"]
 
+    def is_partly(self, ran):
+        # What an earlier call deleted stays deleted.
+        told = (line for line in ran.out.splitlines() if line != "fault already deleted")
+        return any(line.startswith("fault ") for line in told)
+
     def stuck(self, ran):
         failed, why = set(), []
+        # After a deletion that was not recorded no step of the script is carried out.
+        if "fault disk" in ran.out.splitlines()[:3]:
+            return []
         for step, answer in zip(self.lines, ran.out.splitlines()):
             if step.startswith("remove "):
                 if step in failed and answer != "removed":

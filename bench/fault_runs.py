@@ -38,15 +38,14 @@ UNSEEN = ("short", "EINTR")
 PASSED_OVER = re.compile(r"(write|cut) .*/writer\.lock|lock .*/logs|remove .*\.(unsynced|hint|hint\.new)")
 
 
-# What a program says of a hint that it could not read, before it reads the log.
-HINT_NOTE = re.compile(r"note hint not used: log \d+: .*\n")
+# What a program says of what it could not read and does without: a hint, whose log it reads then, and the watermarks of an
+# earlier release.
+DONE_WITHOUT = re.compile(r"note (hint not used: log \d+|watermarks not looked for): .*\n")
 
 
-def without_hint_notes(told, hits):
-    """What a program said but of hints, if each call that failed was on one, and whether it said something of them."""
-    if not all(hit.endswith(".hint") for hit in hits):
-        return told, False
-    left = HINT_NOTE.sub("", told)
+def without_notes(told):
+    """What a program said but of what it does without, and whether it said something of that."""
+    left = DONE_WITHOUT.sub("", told)
     return left, left != told
 
 

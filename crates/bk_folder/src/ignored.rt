@@ -2,7 +2,7 @@
 
 use crate::book::tell_torn;
 use crate::folder_disk::LogsDisk;
-use bk_disk::LogDisk;
+use bk_disk::{DiskFault, LogDisk};
 use bk_inspect::{Form, tell_ignored};
 use bk_manifest_disk::{FolderLogs, LOGS, Report, Torn};
 use bk_messages::write_row;
@@ -24,8 +24,8 @@ pub struct Ignored {
     reports: Vec<Report>,
     /// The manifest's end that is no records.
     torn: Option<Torn>,
-    /// A log with a watermark of an earlier release.
-    marked: Option<u32>,
+    /// A log with a watermark of an earlier release, or why that is not known.
+    marked: Result<Option<u32>, DiskFault>,
 }
 
 /// The row of a directory with watermarks.
@@ -45,6 +45,19 @@ impl Display for MarkedRow {
     }
 }
 
+/// The row of a directory of whose watermarks nothing is known.
+#[derive(Clone, Copy, Serialize)]
+struct UnknownRow {
+    note: &'static str,
+    why: &'static str,
+}
+
+impl Display for UnknownRow {
+    fn fmt<W: fmt::Write>(&self, f: &mut Formatter<W>) -> fmt::Result {
+        write!(f, "note {}: {}", self.note, self.why)
+    }
+}
+
 impl Ignored {
     /// Returns that nothing is ignored.
     pub fn none(alloc: Global) -> Ignored {
@@ -52,7 +65,7 @@ impl Ignored {
             alloc,
             reports: Vec::new(alloc),
             torn: None,
-            marked: None,
+            marked: Ok(None),
         }
     }
 
@@ -79,29 +92,38 @@ impl Ignored {
             tell_torn(self.alloc, form, LOGS, torn, errors);
         }
         tell_ignored(self.alloc, form, &self.reports, errors);
-        if let Some(log) = self.marked {
-            let row = MarkedRow {
-                note: "watermarks are ignored",
-                log,
-            };
-            let _ = write_row(self.alloc, form, &row, errors);
+        match self.marked {
+            Ok(None) => {}
+            Ok(Some(log)) => {
+                let row = MarkedRow {
+                    note: "watermarks are ignored",
+                    log,
+                };
+                let _ = write_row(self.alloc, form, &row, errors);
+            }
+            Err(_) => {
+                let row = UnknownRow {
+                    note: "watermarks not looked for",
+                    why: "a log cannot be read",
+                };
+                let _ = write_row(self.alloc, form, &row, errors);
+            }
         }
     }
 }
 
-/// Returns the first log with a watermark; `None` if no log has one, or one cannot be read.
-fn find_marked<D: LogDisk>(alloc: Global, disk: &mut D) -> Option<u32> {
-    for log in &disk.list(alloc).ok()? {
-        let length = disk.length(alloc, *log).ok()?;
+/// Returns the first log with a watermark, `None` if no log has one.
+fn find_marked<D: LogDisk>(alloc: Global, disk: &mut D) -> Result<Option<u32>, DiskFault> {
+    for log in &disk.list(alloc)? {
+        let length = disk.length(alloc, *log)?;
         if MARK_AT + (MARK.len() as u64) <= length
             && disk
-                .read_at(alloc, *log, MARK_AT, MARK.len() as u64)
-                .ok()?
+                .read_at(alloc, *log, MARK_AT, MARK.len() as u64)?
                 .as_slice()
                 == MARK
         {
-            return Some(*log);
+            return Ok(Some(*log));
         }
     }
-    None
+    Ok(None)
 }
