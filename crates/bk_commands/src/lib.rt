@@ -7,9 +7,8 @@ mod program;
 mod script;
 
 pub use bk_cli::{
-    CommandRow, Commands, DEFAULTS, FolderCall, ScriptCall, Value, Word, command_of, counting_rows,
-    folder_call, form_of, is_folder_call, json_arg, reading_rows, row_of, script_call, text_of,
-    words, writing_rows,
+    CommandRow, Commands, DEFAULTS, FolderCall, ScriptCall, Value, Word, command_of, folder_call,
+    form_of, is_folder_call, json_arg, row_of, script_call, tables, text_of, words,
 };
 pub use bk_compact_disk::compact_disk;
 pub use bk_compact_folder::CompactAsk;

@@ -2,9 +2,11 @@
 
 use super::kit::{add, has};
 use bk_disk::{DirDisk, LogDisk};
+use bk_manifest::ManifestFile;
 use bk_manifest_disk::{Cause, KeptDisk, KeptFile, LimitedDisk, Report, open};
 use std::fs::{self, OpenOptions};
 use std::io::Write;
+use std::os::unix::fs::MetadataExt;
 use std::process::Abort;
 use std::test::Fail;
 
@@ -71,5 +73,49 @@ fn a_directory_shows_what_was_durable(rt: HostRuntime) -> Result<(), Fail> {
     assert!(rt; is_file(&rt, "bk_manifest_disk/2.log.cut.0", b"efgh"));
     drop(disk);
     assert!(rt; fs::remove_dir_all(&rt, FOLDER).is_ok());
+    Ok(())
+}
+
+#[test]
+fn a_manifest_that_was_read_is_written_to_a_new_file(rt: HostRuntime) -> Result<(), Fail> {
+    const MANIFEST: &str = "bk_manifest_disk_again/logs.manifest";
+    let folder = "bk_manifest_disk_again";
+    let _ = fs::remove_dir_all(&rt, folder);
+    fs::create_dir(&rt, folder)?;
+    let alloc = rt.alloc();
+    let mut disk = DirDisk::open_to_write(&rt, folder)?;
+    let mut file = KeptFile::new(disk.file(alloc, "logs.manifest")?);
+    // A file of this process stays.
+    assert!(rt; file.replace(alloc, b"first").is_ok());
+    let made = fs::metadata(&rt, MANIFEST)?.ino();
+    assert!(rt; file.write_at(5, b" second").is_ok());
+    assert!(rt; file.sync().is_ok());
+    assert_eq!(rt; fs::metadata(&rt, MANIFEST)?.ino(), made);
+    // Bytes that were read are those of another one: a sync writes them again, once.
+    let mut file = KeptFile::new(disk.file(alloc, "logs.manifest")?);
+    assert!(rt;
+        file.read(alloc)
+            .is_ok_and(|bytes| bytes.as_slice() == b"first second".as_slice())
+    );
+    assert!(rt; file.sync().is_ok());
+    let again = fs::metadata(&rt, MANIFEST)?.ino();
+    assert!(rt; again != made);
+    assert!(rt; is_file(&rt, MANIFEST, b"first second"));
+    assert!(rt; file.sync().is_ok());
+    assert_eq!(rt; fs::metadata(&rt, MANIFEST)?.ino(), again);
+    // So does a write before the sync.
+    let mut file = KeptFile::new(disk.file(alloc, "logs.manifest")?);
+    assert!(rt; file.read(alloc).is_ok());
+    assert!(rt; file.write_at(5, b" third").is_ok());
+    assert!(rt; file.sync().is_ok());
+    assert!(rt; fs::metadata(&rt, MANIFEST)?.ino() != again);
+    assert!(rt; is_file(&rt, MANIFEST, b"first third"));
+    // A file that is missing stays missing.
+    let mut file = KeptFile::new(disk.file(alloc, "other.manifest")?);
+    assert!(rt; file.read(alloc).is_ok_and(|bytes| bytes.is_empty()));
+    assert!(rt; file.sync().is_ok());
+    assert!(rt; fs::metadata(&rt, "bk_manifest_disk_again/other.manifest").is_err());
+    drop(disk);
+    fs::remove_dir_all(&rt, folder)?;
     Ok(())
 }

@@ -3,10 +3,7 @@
 use super::super::folder::anew;
 use super::super::{holds, run};
 use bk_commands::words::{CUT_TORN, DEAD};
-use bk_commands::{
-    CommandRow, counting_rows, dir_command, folder_call, is_folder_call, reading_rows, text_of,
-    writing_rows,
-};
+use bk_commands::{CommandRow, dir_command, folder_call, is_folder_call, tables, text_of};
 use bk_inspect::{Digest, DigestChoice, DirCommand, EntryRange, Form, ScanChoice};
 use std::alloc::Global;
 use std::fs;
@@ -284,16 +281,20 @@ fn is_served(rt: &HostRuntime, list: &[u8], row: &CommandRow) -> Result<bool, Fa
     Ok(holds(list, row.summary) && shown.status < 2 && !holds(&shown.errors, "function"))
 }
 
+/// Checks the commands of these rows.
+fn check_rows(rt: &HostRuntime, list: &[u8], rows: &'static [CommandRow]) -> Result<(), Fail> {
+    for row in rows {
+        assert!(rt; is_served(rt, list, row)?, "{}", row.name);
+    }
+    Ok(())
+}
+
 #[test]
 fn each_row_is_listed_and_has_a_function(rt: HostRuntime) -> Result<(), Fail> {
     let list = run(&rt, &["bk_shell", "help"], "").output;
     anew(&rt, "bk_shell_rows_of")?;
-    for row in reading_rows()
-        .iter()
-        .chain(counting_rows())
-        .chain(writing_rows())
-    {
-        assert!(rt; is_served(&rt, &list, row)?, "{}", row.name);
+    for rows in tables() {
+        check_rows(&rt, &list, rows)?;
     }
     fs::remove_dir_all(&rt, "bk_shell_rows_of")?;
     Ok(())
