@@ -282,9 +282,14 @@ fn is_served(rt: &HostRuntime, list: &[u8], row: &CommandRow) -> Result<bool, Fa
 }
 
 /// Checks the commands of these rows.
-fn check_rows(rt: &HostRuntime, list: &[u8], rows: &'static [CommandRow]) -> Result<(), Fail> {
+fn check_rows(
+    abort: &impl Abort,
+    rt: &HostRuntime,
+    list: &[u8],
+    rows: &'static [CommandRow],
+) -> Result<(), Fail> {
     for row in rows {
-        assert!(rt; is_served(rt, list, row)?, "{}", row.name);
+        assert!(abort; is_served(rt, list, row)?, "{}", row.name);
     }
     Ok(())
 }
@@ -294,7 +299,7 @@ fn each_row_is_listed_and_has_a_function(rt: HostRuntime) -> Result<(), Fail> {
     let list = run(&rt, &["bk_shell", "help"], "").output;
     anew(&rt, "bk_shell_rows_of")?;
     for rows in tables() {
-        check_rows(&rt, &list, rows)?;
+        check_rows(&rt, &rt, &list, rows)?;
     }
     fs::remove_dir_all(&rt, "bk_shell_rows_of")?;
     Ok(())
