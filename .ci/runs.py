@@ -78,7 +78,13 @@ def stamps(top):
 
     folders = {it: top / "crates" / it for it in tried.libraries(top)}
     built = [it for it, folder in folders.items() if (folder / "out" / "rlib" / f"{it}.rlib").is_dir()]
-    return {it: (folders[it] / "out" / "rlib" / "stamp", rtlib.Crate(str(folders[it]), str(top), {}).stamp()) for it in built}
+    # A note is made of those of the crates below, which the toolchain computes again for each crate above.
+    one, known = rtlib.Crate.stamp, {}
+    rtlib.Crate.stamp = lambda it: known[it.folder] if it.folder in known else known.setdefault(it.folder, one(it))
+    try:
+        return {it: (folders[it] / "out" / "rlib" / "stamp", rtlib.Crate(str(folders[it]), str(top), {}).stamp()) for it in built}
+    finally:
+        rtlib.Crate.stamp = one
 
 
 def note_built(top):
