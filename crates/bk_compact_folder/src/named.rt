@@ -21,6 +21,8 @@ struct Records {
 #[derive(Drop)]
 struct Named {
     ledgers: BTreeMap<u64, Records>,
+    /// Whether a log was not read to its end.
+    is_partial: bool,
 }
 
 impl Named {
@@ -34,7 +36,10 @@ impl Named {
             };
             let _ = ledgers.insert(*ledger, nothing)?;
         }
-        Ok(Named { ledgers })
+        Ok(Named {
+            ledgers,
+            is_partial: false,
+        })
     }
 }
 
@@ -51,11 +56,18 @@ impl TakesEntries for Named {
 impl TakesLogs for Named {
     fn begin(&mut self, _log: u32, _length: u64, _is_sealed: bool) {}
 
-    fn end(&mut self, _end: LogEnd, _fault: Option<LogFault>) -> Result<(), AllocError> {
+    fn end(&mut self, _end: LogEnd, fault: Option<LogFault>) -> Result<(), AllocError> {
+        // What is wrong with a map does not matter here.
+        if let Some(fault) = fault
+            && !fault.is_of_map()
+        {
+            self.is_partial = true;
+        }
         Ok(())
     }
 
     fn miss(&mut self, _log: u32, _reason: &io::Error) -> Result<(), AllocError> {
+        self.is_partial = true;
         Ok(())
     }
 }
@@ -79,9 +91,9 @@ pub(crate) fn show_named<W: Write, E: Write>(
         return Ok(());
     }
     let mut named = Named::new(rt.alloc(), dead)?;
-    // What is wrong with a map does not matter here.
     let mut notes = Vec::new(rt.alloc());
-    if visit_folder(rt, form, path, ends, &mut named, &mut notes).is_none() {
+    let visited = visit_folder(rt, form, path, ends, &mut named, &mut notes);
+    if visited.is_none() || named.is_partial {
         let _ = errors.write_all(&notes);
         return Err(CommandFault::Reported);
     }
