@@ -150,7 +150,7 @@ impl DirDisk {
     ///
     /// # Errors
     ///
-    /// - those of `open_to_write`.
+    /// - those of `open_to_write`, which are noted for `last_fault`.
     pub fn file(&mut self, alloc: Global, name: &str) -> Result<FolderFile, FolderFault> {
         match self.folder.file(alloc, name) {
             Ok(file) => Ok(file),

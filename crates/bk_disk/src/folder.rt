@@ -114,7 +114,10 @@ impl Folder {
 
     /// Returns the file of this name beside the logs, once this disk is the writer.
     pub(crate) fn file(&mut self, alloc: Global, name: &str) -> Result<FolderFile, Refusal> {
-        self.lock(alloc)?;
+        if let Err(refusal) = self.lock(alloc) {
+            self.watch.note(refusal.file_fault(alloc));
+            return Err(refusal);
+        }
         let watch = self.watch.share(alloc).map_err(|_| Refusal::Memory)?;
         FolderFile::new(&self.rt, &self.path, name, watch).map_err(|_| Refusal::Memory)
     }
@@ -125,7 +128,7 @@ impl Folder {
             Ok(()) => Ok(()),
             Err(refusal) => {
                 let answer = refusal.disk_fault();
-                self.watch.note(refusal.file_fault());
+                self.watch.note(refusal.file_fault(alloc));
                 Err(answer)
             }
         }

@@ -74,19 +74,19 @@ impl Refusal {
         }
     }
 
-    /// Returns the failed call, `None` if memory was refused.
-    pub(crate) fn file_fault(self) -> Option<FileFault> {
-        match self {
+    /// Returns the failed call, `None` if memory is refused.
+    pub(crate) fn file_fault(&self, alloc: Global) -> Option<FileFault> {
+        let (path, failed) = match self {
             Refusal::InUse { lock, holder: _ } => {
-                let failed = Failed::by(Operation::Lock, Reason::Found(Finding::Held));
-                Some(FileFault::new(lock, failed))
+                let held = Reason::Found(Finding::Held);
+                (lock, Failed::by(Operation::Lock, held))
             }
-            Refusal::Path { path, reason } => {
-                Some(FileFault::new(path, Failed::by(Operation::Lock, reason)))
-            }
-            Refusal::File(fault) => Some(fault),
-            Refusal::Memory => None,
-        }
+            Refusal::Path { path, reason } => (path, Failed::by(Operation::Lock, *reason)),
+            Refusal::File(fault) => return fault.copy(alloc).ok(),
+            Refusal::Memory => return None,
+        };
+        let path = String::from_str(alloc, path).ok()?;
+        Some(FileFault::new(path, failed))
     }
 }
 

@@ -84,3 +84,17 @@ fn a_link_and_a_file_with_two_names_are_refused(rt: HostRuntime) {
         assert!(rt; fs::remove_dir_all(&rt, folder).is_ok());
     }
 }
+
+#[test]
+fn a_directory_that_is_refused_is_noted(rt: HostRuntime) {
+    let folder = "bk_disk_beside_refused";
+    assert!(rt; begin(&rt, folder));
+    assert!(rt; do_change(&rt, folder, Link("writer.lock", "other")).is_ok());
+    let mut disk = DirDisk::open(&rt, folder).expect(&rt, "a directory");
+    assert!(rt; disk.file(rt.alloc(), "notes").is_err());
+    let noted = disk.last_fault(rt.alloc()).expect(&rt, "memory");
+    let fault = noted.expect(&rt, "a fault");
+    assert_eq!(rt; fault.path(), "bk_disk_beside_refused/writer.lock");
+    drop(disk);
+    assert!(rt; fs::remove_dir_all(&rt, folder).is_ok());
+}
