@@ -1,6 +1,13 @@
 //! The deleted ledgers of a call: those that it names, and those that the directory's manifest
 //! records.
 
+ghost use Rattle.std.specs.Prelude.{◌≡◌, ℕ, ◌<◌, ◌↔◌, ◌⊎◌, ◌++◌, false, length, vec_len, IsTrue, IfOk, IfSome, OnOk, MatchBool};
+ghost use Rattle.std.specs.Ordering.{nat_cmp};
+ghost use Rattle.std.specs.BTreeSet.{contains, btree_set_len};
+ghost use Rattle.bk_inspect.specs.declared.ends.Ends.TheVariants as ends;
+ghost use Rattle.bk_deleted.specs.Deleting.{Extends, is_among, not_live};
+ghost use Rattle.bk_deleted.specs.Present.{HasLedgers};
+
 use crate::lines::{Lines, read_file};
 use bk_cli::FolderCall;
 use bk_cli::words::{DEAD, DEAD_FILE, LIVE_FILE, LIVE_NONE, NO_MANIFEST};
@@ -41,7 +48,9 @@ impl<'a> DeletedAsk<'a> {
     }
 
     /// Returns up to where the logs are read.
-    pub fn ends(&self) -> Ends {
+    pub fn ends(&self) -> Ends
+        ensures { MatchBool self.now.no_manifest (result ≡ ends.Files) (result ≡ ends.Durable) }
+    {
         if self.no_manifest {
             Ends::Files
         } else {
@@ -50,7 +59,9 @@ impl<'a> DeletedAsk<'a> {
     }
 
     /// Returns whether the call says which ledgers are live.
-    fn has_live(&self) -> bool {
+    fn has_live(&self) -> bool
+        ensures { IsTrue result ↔ (IsTrue self.now.live_none ⊎ (0 < vec_len self.now.live_files)) }
+    {
         self.live_none || !self.live_files.is_empty()
     }
 }
@@ -76,7 +87,15 @@ pub fn deleted_in<E: Write>(
     path: &str,
     ask: &DeletedAsk<'_>,
     errors: &mut E,
-) -> Result<Deleted, DeadFault> {
+) -> Result<Deleted, DeadFault>
+    // What the call names is deleted.
+    ensures named { IfOk result (λ deleted. Extends ask.now.dead.items deleted.named.items) }
+    ensures all { IfOk result (λ deleted. Extends deleted.named.items deleted.all.items) }
+    // Nothing else is, without files, live ledgers and manifests.
+    ensures alone { vec_len ask.now.dead_files ≡ 0 → vec_len ask.now.live_files ≡ 0 → ask.now.live_none ≡ false
+        → IfOk result (λ deleted. deleted.named.items ≡ ask.now.dead.items) }
+    ensures unread { IsTrue ask.now.no_manifest → IfOk result (λ deleted. deleted.all.items ≡ deleted.named.items) }
+{
     let alloc = rt.alloc();
     let mut named = Vec::from_slice(alloc, &ask.dead)?;
     for file in &ask.dead_files {
@@ -102,7 +121,9 @@ pub(crate) fn recorded_in(rt: &HostRuntime, path: &str) -> Result<Listed, DeadFa
 
 /// Returns the live ledgers of the files. Fails with `NoneLive` if there is none and the call does
 /// not say so.
-fn live_ledgers(rt: &HostRuntime, ask: &DeletedAsk<'_>) -> Result<BTreeSet<u64>, DeadFault> {
+fn live_ledgers(rt: &HostRuntime, ask: &DeletedAsk<'_>) -> Result<BTreeSet<u64>, DeadFault>
+    ensures { IfOk result (λ live. IsTrue ask.now.live_none ⊎ (0 < btree_set_len live)) }
+{
     let mut listed = Vec::new(rt.alloc());
     for file in &ask.live_files {
         read_file(rt, file, Lines::Listed, &mut listed)?;
@@ -110,11 +131,19 @@ fn live_ledgers(rt: &HostRuntime, ask: &DeletedAsk<'_>) -> Result<BTreeSet<u64>,
     if listed.is_empty() && !ask.live_none {
         return Err(DeadFault::NoneLive);
     }
-    let mut live = BTreeSet::new(rt.alloc());
-    for ledger in &listed {
-        let _ = live.insert(*ledger)?;
+    set_of(rt.alloc(), &listed)
+}
+
+/// Returns the set of these ledgers.
+fn set_of(alloc: Global, ledgers: &[u64]) -> Result<BTreeSet<u64>, DeadFault>
+    ensures exact { IfOk result (λ set. (ledger : ℕ) → contains nat_cmp set ledger ≡ is_among ledgers.now ledger) }
+    ensures some { IfOk result (λ set. 0 < length ledgers.now → 0 < btree_set_len set) }
+{
+    let mut set = BTreeSet::new(alloc);
+    for ledger in ledgers {
+        let _ = set.insert(*ledger)?;
     }
-    Ok(live)
+    Ok(set)
 }
 
 /// Adds each ledger of the logs that is not live.
@@ -126,7 +155,9 @@ fn add_others<E: Write>(
     live: &BTreeSet<u64>,
     named: &mut Vec<u64>,
     errors: &mut E,
-) -> Result<(), DeadFault> {
+) -> Result<(), DeadFault>
+    ensures { OnOk result (Extends named.old.items named.new.items) }
+{
     let mut present = Present {
         ledgers: BTreeSet::new(rt.alloc()),
         last: None,
@@ -134,7 +165,18 @@ fn add_others<E: Write>(
     if visit_folder(rt, form, path, ends, &mut present, errors).is_none() {
         return Err(DeadFault::Logs);
     }
-    for ledger in present.ledgers.iter() {
+    add_dead(&present.ledgers, live, named)
+}
+
+/// Adds the ledgers that are not live.
+fn add_dead(
+    ledgers: &BTreeSet<u64>,
+    live: &BTreeSet<u64>,
+    named: &mut Vec<u64>,
+) -> Result<(), DeadFault>
+    ensures { OnOk result (named.new.items ≡ named.old.items ++ not_live live.now ledgers.now.keys) }
+{
+    for ledger in ledgers.iter() {
         if !live.contains(ledger) {
             named.push(*ledger)?;
         }
@@ -151,6 +193,8 @@ struct Present {
 }
 
 impl TakesEntries for Present {
+    ghost has = { λ _ now taken. HasLedgers now taken };
+
     fn take_in(&mut self, _log: u32, found: Found) -> Result<(), AllocError> {
         let ledger = found.key.ledger();
         if self.last != Some(ledger) {

@@ -1,9 +1,11 @@
 //! What a command that reads entries notes of the directory's manifest: a deleted ledger.
 
+ghost use Rattle.std.specs.Prelude.{◌↔◌, IsTrue};
+ghost use Rattle.bk_deleted.specs.Noting.{ShowsEntries, IsNote};
+
 use crate::deleted::recorded_in;
 use bk_cli::FolderCall;
 use bk_cli::words::{LEDGER, NO_MANIFEST};
-use bk_ledgers::Listed;
 use bk_messages::write_row;
 use serde::Serialize;
 use std::fmt;
@@ -36,12 +38,11 @@ impl Display for NoteRow {
 /// call lists all; also that the manifest cannot be read. A failed write is ignored.
 pub fn note_deleted<E: Write>(rt: &HostRuntime, call: &FolderCall<'_>, errors: &mut E) {
     let is_of_all = call.name() == "ledgers";
-    let is_noted = is_of_all || matches!(call.name(), "find" | "entries" | "export");
-    if !is_noted || call.has(&NO_MANIFEST) {
+    if !is_noted(call.name()) || call.has(&NO_MANIFEST) {
         return;
     }
     let row = match recorded_in(rt, call.path) {
-        Ok(listed) => row_of(call, is_of_all, &listed),
+        Ok(listed) => note_of(is_of_all, call.number(&LEDGER), &listed.deleted),
         Err(_fault) => Some(NoteRow {
             note: "the manifest cannot be read",
             ledger: None,
@@ -53,17 +54,26 @@ pub fn note_deleted<E: Write>(rt: &HostRuntime, call: &FolderCall<'_>, errors: &
     }
 }
 
+/// Returns whether the command of this name shows entries, or the ledgers that have some.
+fn is_noted(name: &str) -> bool
+    ensures { IsTrue result ↔ ShowsEntries name.now }
+{
+    matches!(name, "ledgers" | "find" | "entries" | "export")
+}
+
 /// Returns the row of a call that shows all ledgers, or one; `None` if nothing that it shows is
 /// deleted.
-fn row_of(call: &FolderCall<'_>, is_of_all: bool, listed: &Listed) -> Option<NoteRow> {
+fn note_of(is_of_all: bool, ledger: Option<u64>, deleted: &[u64]) -> Option<NoteRow>
+    ensures { IsNote is_of_all ledger deleted.now result }
+{
     let (ledger, ledgers) = if is_of_all {
-        (None, Some(listed.deleted.len() as u64))
+        (None, Some(deleted.len() as u64))
     } else {
-        (call.number(&LEDGER), None)
+        (ledger, None)
     };
     let is_shown = match ledger {
-        Some(ledger) => listed.deleted.contains(&ledger),
-        None => is_of_all && !listed.deleted.is_empty(),
+        Some(ledger) => deleted.contains(&ledger),
+        None => is_of_all && !deleted.is_empty(),
     };
     if !is_shown {
         return None;

@@ -1,0 +1,4 @@
+pub mod Lines
+pub mod Deleting
+pub mod Noting
+pub mod Present
