@@ -1,6 +1,7 @@
 //! The page on a directory of the system.
 
-ghost use Rattle.std.specs.Prelude.{◌≤◌};
+ghost use Rattle.std.specs.Prelude.{◌≡◌, ◌≤◌, Err, IfOk, IfSome, IsErr, IsNone, IsSomeAnd, None, Ok, OnErr, OnOk};
+ghost use Rattle.bk_survey.specs.Pages.{ShowsFault, ShowsTable};
 
 use crate::manifest::manifests_of;
 use crate::survey::{PageAsk, Surveyed, Surveyor, tell_memory};
@@ -80,7 +81,9 @@ fn asked_manifests(
     rt: &HostRuntime,
     path: &str,
     ends: Ends,
-) -> Result<Option<ManifestTable>, ReadFault> {
+) -> Result<Option<ManifestTable>, ReadFault>
+    ensures { ends ≡ Ends.Files → result ≡ Ok None }
+{
     match ends {
         Ends::Durable => manifests_of(rt, path),
         Ends::Files => Ok(None),
@@ -95,7 +98,11 @@ fn with_manifests<E: Write>(
     surveyed: Surveyed,
     found: Result<Option<ManifestTable>, ReadFault>,
     errors: &mut E,
-) -> Option<Surveyed> {
+) -> Option<Surveyed>
+    ensures table { IfOk found (λ table. IsSomeAnd result (ShowsTable table surveyed)) }
+    ensures fault { OnErr found (IfSome result (ShowsFault surveyed)) }
+    ensures memory { found ≡ Err ReadFault.Memory → IsNone result }
+{
     let mut surveyed = surveyed;
     match found {
         Ok(manifest) => surveyed.report.manifest = manifest,
@@ -112,7 +119,10 @@ fn with_manifests<E: Write>(
 
 /// Adds the fault of a manifest to the report, whose status is then 1. Fails for refused memory, also
 /// if that is the fault.
-fn add_fault(alloc: Global, fault: &ReadFault, surveyed: &mut Surveyed) -> Result<(), AllocError> {
+fn add_fault(alloc: Global, fault: &ReadFault, surveyed: &mut Surveyed) -> Result<(), AllocError>
+    ensures fault { OnOk result (ShowsFault surveyed.old surveyed.new) }
+    ensures memory { fault.now ≡ ReadFault.Memory → IsErr result }
+{
     if let ReadFault::Memory = fault {
         return Err(AllocError);
     }
@@ -155,7 +165,8 @@ fn object_of(alloc: Global, fault: &ReadFault) -> Option<String> {
 
 /// Writes the page. Returns the status.
 fn show<W: Write, E: Write>(surveyed: &Surveyed, writer: &mut W, errors: &mut E) -> u8
-    ensures { result ≤ 1 }
+    ensures status { result ≤ 1 }
+    ensures good { result ≡ 0 → surveyed.now.status ≡ 0 }
 {
     match write_flushed(surveyed, writer) {
         Ok(()) if surveyed.status == 0 => 0,

@@ -1,5 +1,9 @@
 //! What the manifests of a directory record.
 
+ghost use Rattle.std.specs.Prelude.{◌≡◌, IfOk};
+ghost use Rattle.bk_manifest.specs.Fact.{fact, facts};
+ghost use Rattle.bk_survey.specs.Pages.{records_of, row_of, rows_of, IsTable};
+
 use bk_ledgers::{LEDGERS, ledgers_of};
 use bk_manifest::Record;
 use bk_manifest_disk::{LOGS, Read, ReadFault, read_file};
@@ -29,7 +33,9 @@ fn table_of(
     alloc: Global,
     logs: Option<Read>,
     ledgers: Option<Read>,
-) -> Result<ManifestTable, AllocError> {
+) -> Result<ManifestTable, AllocError>
+    ensures { IfOk result (IsTable (facts (records_of logs)) (facts (records_of ledgers))) }
+{
     let logs = records_in(alloc, logs);
     let ledgers = records_in(alloc, ledgers);
     let listed = ledgers_of(alloc, &ledgers)?;
@@ -41,7 +47,9 @@ fn table_of(
 }
 
 /// Returns the records of a manifest; none if there is no manifest.
-fn records_in(alloc: Global, found: Option<Read>) -> Vec<Record> {
+fn records_in(alloc: Global, found: Option<Read>) -> Vec<Record>
+    ensures { result.items ≡ records_of found }
+{
     match found {
         Some(found) => found.records,
         None => Vec::new(alloc),
@@ -49,7 +57,10 @@ fn records_in(alloc: Global, found: Option<Read>) -> Vec<Record> {
 }
 
 /// Returns a row for each record of a log, in their order.
-fn rows_of(alloc: Global, records: &[Record]) -> Result<Vec<ManifestRow>, AllocError> {
+#[tactic(auto, using(crate::proofs::Rows::one_row, crate::proofs::Rows::no_row))]
+fn rows_of(alloc: Global, records: &[Record]) -> Result<Vec<ManifestRow>, AllocError>
+    ensures { IfOk result (λ rows. rows.items ≡ rows_of (facts records.now)) }
+{
     let mut rows = Vec::new(alloc);
     for one in records {
         if let Some(row) = row_of(one) {
@@ -60,7 +71,9 @@ fn rows_of(alloc: Global, records: &[Record]) -> Result<Vec<ManifestRow>, AllocE
 }
 
 /// Returns the row of a record; `None` if it is not about a log.
-fn row_of(one: &Record) -> Option<ManifestRow> {
+fn row_of(one: &Record) -> Option<ManifestRow>
+    ensures { result ≡ row_of (fact one.now) }
+{
     let (log, promise) = match one {
         Record::MadeLog(log) => (*log, Promise::Made),
         Record::DurableLog { log, length } => (*log, Promise::Durable { length: *length }),

@@ -1,6 +1,9 @@
 //! A survey of a disk: what bk_inspect reads of each log is counted by bk_report.
 
+ghost use Rattle.std.specs.Prelude.{◌≡◌, [], IfOk, IfSome, MatchOption, OnOk};
 ghost use Rattle.bk_inspect.specs.Reading.{OnlyReads};
+ghost use Rattle.bk_report.specs.Surveying.{CountsEntry, EndsLog};
+ghost use Rattle.bk_survey.specs.Pages.{end_of, HasOneMore};
 
 use bk_disk::{LogDisk, name_of};
 use bk_inspect::{Form, LogEnd, LogFault, TakesEntries, TakesLogs, visit_disk};
@@ -68,7 +71,9 @@ pub(crate) struct Surveyor {
 
 impl Surveyor {
     /// Returns the survey of no log.
-    pub(crate) fn new(alloc: Global, dead: &[u64]) -> Result<Surveyor, AllocError> {
+    pub(crate) fn new(alloc: Global, dead: &[u64]) -> Result<Surveyor, AllocError>
+        ensures { IfOk result (λ surveyor. surveyor.faults.items ≡ []) }
+    {
         let mut deleted = BTreeSet::new(alloc);
         for ledger in dead {
             let _ = deleted.insert(*ledger)?;
@@ -86,7 +91,10 @@ impl Surveyor {
         status: u8,
         ask: &PageAsk<'_>,
         errors: &mut E,
-    ) -> Option<Surveyed> {
+    ) -> Option<Surveyed>
+        ensures status { IfSome result (λ surveyed. surveyed.status ≡ status) }
+        ensures logs { IfSome result (λ surveyed. surveyed.report.logs ≡ self.survey.logs) }
+    {
         match self.report(ask) {
             Ok(report) => Some(Surveyed { report, status }),
             Err(_) => {
@@ -97,7 +105,9 @@ impl Surveyor {
     }
 
     /// Returns the report.
-    fn report(self, ask: &PageAsk<'_>) -> Result<Report, AllocError> {
+    fn report(self, ask: &PageAsk<'_>) -> Result<Report, AllocError>
+        ensures { IfOk result (λ report. report.logs ≡ self.survey.logs) }
+    {
         let alloc = self.alloc;
         let folder = String::from_str(alloc, ask.folder)?;
         let time = String::from_str(alloc, ask.time)?;
@@ -106,32 +116,56 @@ impl Surveyor {
     }
 }
 
+impl Surveyor {
+    /// Notes what is wrong with the log. Returns what its row says of that: nothing if the map alone is
+    /// wrong.
+    fn note(&mut self, fault: LogFault) -> Result<Option<String>, AllocError>
+        ensures counts { self.new.survey ≡ self.old.survey }
+        ensures fault { OnOk result (HasOneMore self.old.faults.items self.new.faults.items) }
+    {
+        let log = self.survey.log.log;
+        let file = name_of(self.alloc, log)?;
+        let line = format!(in self.alloc; "log {log} ({file}): {fault}")?;
+        self.faults.push(line)?;
+        if fault.is_of_map() {
+            return Ok(None);
+        }
+        Ok(Some(format!(in self.alloc; "{fault}")?))
+    }
+}
+
 impl TakesEntries for Surveyor {
-    fn take_in(&mut self, _log: u32, found: Found) -> Result<(), AllocError> {
+    fn take_in(&mut self, _log: u32, found: Found) -> Result<(), AllocError>
+        ensures counts { OnOk result (CountsEntry found.key.ledger found.size self.old.survey self.new.survey) }
+        ensures faults { self.new.faults ≡ self.old.faults }
+    {
         self.survey.add(found.key.ledger(), u64::from(found.size))
     }
 }
 
 impl TakesLogs for Surveyor {
-    fn begin(&mut self, log: u32, length: u64, is_sealed: bool) {
+    fn begin(&mut self, log: u32, length: u64, is_sealed: bool)
+        ensures { self.new ≡ record self.old { survey = record self.old.survey { log = self.new.survey.log } } }
+    {
         self.survey.begin(log, length, is_sealed);
     }
 
-    fn end(&mut self, end: LogEnd, fault: Option<LogFault>) -> Result<(), AllocError> {
-        let mut of_log = None;
-        if let Some(fault) = fault {
-            let log = self.survey.log.log;
-            let file = name_of(self.alloc, log)?;
-            let line = format!(in self.alloc; "log {log} ({file}): {fault}")?;
-            self.faults.push(line)?;
-            if !fault.is_of_map() {
-                of_log = Some(format!(in self.alloc; "{fault}")?);
-            }
-        }
+    fn end(&mut self, end: LogEnd, fault: Option<LogFault>) -> Result<(), AllocError>
+        ensures row { OnOk result (EndsLog (end_of end) self.old.survey self.new.survey) }
+        ensures fault { OnOk result (MatchOption fault (self.new.faults ≡ self.old.faults)
+            (λ _. HasOneMore self.old.faults.items self.new.faults.items)) }
+    {
+        let of_log = match fault {
+            Some(fault) => self.note(fault)?,
+            None => None,
+        };
         self.survey.end(end_of(end), of_log)
     }
 
-    fn miss(&mut self, log: u32, reason: &io::Error) -> Result<(), AllocError> {
+    fn miss(&mut self, log: u32, reason: &io::Error) -> Result<(), AllocError>
+        ensures counts { self.new.survey ≡ self.old.survey }
+        ensures fault { OnOk result (HasOneMore self.old.faults.items self.new.faults.items) }
+    {
         let file = name_of(self.alloc, log)?;
         let line = format!(in self.alloc; "log {log} ({file}), left out: open: {reason}")?;
         self.faults.push(line)?;
@@ -140,7 +174,9 @@ impl TakesLogs for Surveyor {
 }
 
 /// Returns the same end for the survey.
-fn end_of(end: LogEnd) -> bk_report::LogEnd {
+fn end_of(end: LogEnd) -> bk_report::LogEnd
+    ensures { result ≡ end_of end }
+{
     match end {
         LogEnd::Read { torn } => bk_report::LogEnd::Read { torn },
         LogEnd::BadLength { at } => bk_report::LogEnd::Doubtful { from: at },
