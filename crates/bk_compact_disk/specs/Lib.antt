@@ -1,1 +1,2 @@
 pub mod Compacted
+pub mod Sizes

@@ -2,7 +2,8 @@
 
 ghost use Rattle.std.specs.Prelude.{◌≡◌, IfOk, IfSome, IsTrue};
 ghost use Rattle.bk_store.specs.Transitions.{valid_ledgers};
-ghost use Rattle.bk_compact_disk.specs.Compacted.{EndsCompacted};
+ghost use Rattle.bk_compact_disk.specs.Compacted.{EndsCompacted, PlansCompaction, settings_below};
+ghost use Rattle.bk_compact_disk.specs.Sizes.{AreLengths, IsSizeOf};
 ghost use Rattle.bk_offline_gc.specs.Sweeping.{SameFileContents};
 ghost use Rattle.bk_inspect.specs.Reading.{OnlyReads};
 
@@ -49,7 +50,7 @@ pub fn compact_disk<D: LogDisk, W: Write, E: Write>(
 
 /// Returns the settings of a store that compacts logs below this share, in thousandths.
 fn settings_below(below: u32) -> Settings
-    ensures { result.major ≡ below }
+    ensures { result ≡ settings_below below }
 {
     Settings {
         slots: 65_536,
@@ -64,7 +65,8 @@ pub fn lengths_of<D: LogDisk>(
     alloc: Global,
     disk: &mut D,
 ) -> Result<BTreeMap<u32, u64>, CommandFault>
-    ensures { OnlyReads (D.honest disk.old) (D.files disk.old) (D.honest disk.new) (D.files disk.new) }
+    ensures reads { OnlyReads (D.honest disk.old) (D.files disk.old) (D.honest disk.new) (D.files disk.new) }
+    ensures lengths { IsTrue (D.honest disk.old) → IfOk result (AreLengths (D.files disk.old)) }
 {
     let mut lengths = BTreeMap::new(alloc);
     for log in disk.list(alloc)?.iter() {
@@ -82,7 +84,9 @@ pub fn lengths_of<D: LogDisk>(
 }
 
 /// Returns the number of these logs, and their bytes.
-pub fn size_of(lengths: &BTreeMap<u32, u64>) -> Size {
+pub fn size_of(lengths: &BTreeMap<u32, u64>) -> Size
+    ensures { IsSizeOf lengths.now result }
+{
     let mut bytes = 0u64;
     for length in lengths.values() {
         bytes = bytes.saturating_add(*length);
@@ -162,7 +166,9 @@ pub fn plan_disk<D: LogDisk>(
     disk: D,
     below: u32,
     dead: &[u64],
-) -> Result<Vec<Planned>, CommandFault> {
+) -> Result<Vec<Planned>, CommandFault>
+    ensures { IfOk result (λ planned. PlansCompaction below (D.honest disk) (D.files disk) dead.now planned.items) }
+{
     match Store::open(alloc, disk, settings_below(below), dead) {
         Ok(store) => Ok(plan(&store, Kind::Major)?),
         Err(fault) => Err(CommandFault::Sweep(SweepFault::Open(fault))),

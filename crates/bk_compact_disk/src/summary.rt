@@ -1,5 +1,7 @@
 //! The sums of a compaction, and their row.
 
+ghost use Rattle.bk_compact_disk.specs.Sizes.{FreesBytes, ShowsSums};
+
 use bk_inspect::Form;
 use bk_messages::{RowFault, write_row};
 use serde::Serialize;
@@ -44,12 +46,26 @@ impl Display for SummaryRow {
 }
 
 /// Returns the bytes by which the second size is smaller; negative if it is larger.
-fn freed(before: Size, after: Size) -> i64 {
+fn freed(before: Size, after: Size) -> i64
+    ensures { FreesBytes before.bytes after.bytes result }
+{
     let grown = after.bytes.saturating_sub(before.bytes);
     if grown > 0 {
         -i64::try_from(grown).unwrap_or(i64::MAX)
     } else {
         i64::try_from(before.bytes.saturating_sub(after.bytes)).unwrap_or(i64::MAX)
+    }
+}
+
+/// Returns the row of a summary.
+fn row_of(summary: &Summary) -> SummaryRow
+    ensures { ShowsSums summary.now result }
+{
+    SummaryRow {
+        before: summary.before.logs,
+        after: summary.after.logs,
+        freed: freed(summary.before, summary.after),
+        moved: summary.moved,
     }
 }
 
@@ -60,13 +76,7 @@ pub fn write_summary<W: Write>(
     summary: &Summary,
     writer: &mut W,
 ) -> Result<(), RowFault> {
-    let row = SummaryRow {
-        before: summary.before.logs,
-        after: summary.after.logs,
-        freed: freed(summary.before, summary.after),
-        moved: summary.moved,
-    };
-    write_row(alloc, form, &row, writer)?;
+    write_row(alloc, form, &row_of(summary), writer)?;
     writer.flush()?;
     Ok(())
 }
