@@ -1,5 +1,7 @@
 //! What a call of `compact` asks for.
 
+ghost use Rattle.std.specs.Prelude.{◌≡◌, ◌<◌, ◌^◌, if◌then◌else◌, IfNone, IfSome};
+
 use bk_cli::words::{BELOW, DRY_RUN, INDEX_IS_REBUILT, MINOR, NO_HINTS};
 use bk_cli::{DEFAULTS, FolderCall};
 use bk_deleted::DeletedAsk;
@@ -24,13 +26,8 @@ pub struct CompactAsk<'a> {
 impl<'a> CompactAsk<'a> {
     /// Returns what a call of `compact` asks for.
     pub fn of(alloc: Global, call: &FolderCall<'a>) -> Result<CompactAsk<'a>, AllocError> {
-        let below = match call.number(&BELOW) {
-            Some(below) => u32::try_from(below).unwrap_or(DEFAULTS.major),
-            None if call.has(&MINOR) => DEFAULTS.minor,
-            None => DEFAULTS.major,
-        };
         Ok(CompactAsk {
-            below,
+            below: share_of(call.number(&BELOW), call.has(&MINOR)),
             deleted: DeletedAsk::of(alloc, call)?,
             hints: if call.has(&NO_HINTS) {
                 Hints::Ignored
@@ -40,5 +37,18 @@ impl<'a> CompactAsk<'a> {
             is_dry: call.has(&DRY_RUN),
             index_is_rebuilt: call.has(&INDEX_IS_REBUILT),
         })
+    }
+}
+
+/// Returns the share below which a log is compacted: the one that is named, else the default of a
+/// minor compaction if it is asked for, else that of a major one.
+fn share_of(named: Option<u64>, is_minor: bool) -> u32
+    ensures named { IfSome named (λ share. share < 2 ^ 32 → result ≡ share) }
+    ensures default { IfNone named (result ≡ (if is_minor then 200 else 800)) }
+{
+    match named {
+        Some(share) => u32::try_from(share).unwrap_or(DEFAULTS.major),
+        None if is_minor => DEFAULTS.minor,
+        None => DEFAULTS.major,
     }
 }

@@ -1,6 +1,6 @@
 //! The command `compact`: compacts a directory, or shows what that would do.
 
-ghost use Rattle.std.specs.Prelude.{◌≤◌};
+ghost use Rattle.std.specs.Prelude.{◌≡◌, ◌≤◌, false, Err, IfNone, IfOk, IfSome, IsNone, IsOk, IsTrue};
 
 use crate::ask::CompactAsk;
 use crate::index::index_in;
@@ -83,7 +83,9 @@ fn find_work<W: Write, E: Write>(
     watch: &mut Option<FaultWatch>,
     writer: &mut W,
     errors: &mut E,
-) -> Result<Option<Work>, CommandFault> {
+) -> Result<Option<Work>, CommandFault>
+    ensures dry { IsTrue ask.now.is_dry → IfOk result (λ work. IsNone work) }
+{
     let deleted = deleted_in(rt, form, path, &ask.deleted, errors)?;
     if !is_to_be_done(rt, form, path, ask, &deleted, watch, writer, errors)? {
         return Ok(None);
@@ -104,7 +106,9 @@ fn is_to_be_done<W: Write, E: Write>(
     watch: &mut Option<FaultWatch>,
     writer: &mut W,
     errors: &mut E,
-) -> Result<bool, CommandFault> {
+) -> Result<bool, CommandFault>
+    ensures dry { IsTrue ask.now.is_dry → IfOk result (λ is_done. is_done ≡ false) }
+{
     let (disk, is_empty) = find_logs(rt, path, watch)?;
     if is_empty {
         show_empty(rt.alloc(), form, path, writer, errors)?;
@@ -118,11 +122,21 @@ fn is_to_be_done<W: Write, E: Write>(
 }
 
 /// Refuses a directory with a bookie's index, unless the operator rebuilds it.
-fn refuse_index(rt: &HostRuntime, path: &str, ask: &CompactAsk<'_>) -> Result<(), CommandFault> {
+fn refuse_index(rt: &HostRuntime, path: &str, ask: &CompactAsk<'_>) -> Result<(), CommandFault>
+    ensures rebuilt { IsTrue ask.now.index_is_rebuilt → IsOk result }
+{
     if ask.index_is_rebuilt {
         return Ok(());
     }
-    match index_in(rt, path)? {
+    without_index(index_in(rt, path)?)
+}
+
+/// Refuses the index that was found.
+fn without_index(found: Option<String>) -> Result<(), CommandFault>
+    ensures found { IfSome found (λ file. result ≡ Err (CommandFault.Index file)) }
+    ensures none { IfNone found (IsOk result) }
+{
+    match found {
         Some(file) => Err(CommandFault::Index(file)),
         None => Ok(()),
     }
@@ -252,7 +266,9 @@ fn show_empty<W: Write, E: Write>(
 }
 
 /// Returns the summary of nothing done.
-fn still(size: Size) -> Summary {
+fn still(size: Size) -> Summary
+    ensures { result ≡ record { before = size; after = size; moved = 0 } }
+{
     Summary {
         before: size,
         after: size,

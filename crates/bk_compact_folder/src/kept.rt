@@ -3,6 +3,9 @@
 //! They are empty logs by the format, and no entry needs them. But what they have may be what a crash left of
 //! a log, so the operator looks at them and removes them.
 
+ghost use Rattle.std.specs.Prelude.{◌<◌, ◌↔◌, IsTrue};
+ghost use Rattle.bk_record.specs.Files.{header_length};
+
 use crate::rows::KeptRow;
 use bk_disk::name_of;
 use bk_inspect::Form;
@@ -27,14 +30,20 @@ pub(crate) fn kept_logs(
 ) -> Result<Vec<u32>, CommandFault> {
     let mut kept = Vec::new(rt.alloc());
     for (log, length) in lengths.iter() {
-        let is_short = 0 < *length && *length < HEADER_LENGTH as u64;
-        if is_short && !is_copied(rt, path, *log)? {
+        if is_short(*length) && !is_copied(rt, path, *log)? {
             let Ok(()) = kept.push(*log) else {
                 return Err(CommandFault::Memory);
             };
         }
     }
     Ok(kept)
+}
+
+/// Returns whether a file of this length is shorter than a header, and not empty.
+fn is_short(length: u64) -> bool
+    ensures { IsTrue result ↔ ((0 < length) × (length < header_length)) }
+{
+    0 < length && length < HEADER_LENGTH as u64
 }
 
 /// Returns whether the file of a log has a copy aside, as `seal --cut-torn` makes it, with the same

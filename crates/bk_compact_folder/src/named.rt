@@ -1,5 +1,8 @@
 //! The ledgers that are named as deleted: what a compaction takes of each.
 
+ghost use Rattle.std.specs.Prelude.{◌≡◌, [], IsNone, IsOk, IsTrue};
+ghost use Rattle.bk_compact_folder.specs.Named.{CountsRecord};
+
 use crate::rows::LedgerRow;
 use bk_inspect::{Ends, Form, LogEnd, LogFault, TakesEntries, TakesLogs, visit_folder};
 use bk_log::Found;
@@ -44,7 +47,10 @@ impl Named {
 }
 
 impl TakesEntries for Named {
-    fn take_in(&mut self, _log: u32, found: Found) -> Result<(), AllocError> {
+    fn take_in(&mut self, _log: u32, found: Found) -> Result<(), AllocError>
+        ensures counts { CountsRecord found.key.ledger found.size self.old.ledgers self.new.ledgers }
+        ensures partial { self.new.is_partial ≡ self.old.is_partial }
+    {
         if let Some(records) = self.ledgers.get_mut(&found.key.ledger()) {
             records.entries = records.entries.saturating_add(1);
             records.bytes = records.bytes.saturating_add(u64::from(found.size));
@@ -56,7 +62,11 @@ impl TakesEntries for Named {
 impl TakesLogs for Named {
     fn begin(&mut self, _log: u32, _length: u64, _is_sealed: bool) {}
 
-    fn end(&mut self, _end: LogEnd, fault: Option<LogFault>) -> Result<(), AllocError> {
+    fn end(&mut self, _end: LogEnd, fault: Option<LogFault>) -> Result<(), AllocError>
+        ensures counts { self.new.ledgers ≡ self.old.ledgers }
+        ensures whole { IsNone fault → self.new.is_partial ≡ self.old.is_partial }
+        ensures partial { IsTrue self.old.is_partial → IsTrue self.new.is_partial }
+    {
         // What is wrong with a map does not matter here.
         if let Some(fault) = fault
             && !fault.is_of_map()
@@ -66,7 +76,10 @@ impl TakesLogs for Named {
         Ok(())
     }
 
-    fn miss(&mut self, _log: u32, _reason: &io::Error) -> Result<(), AllocError> {
+    fn miss(&mut self, _log: u32, _reason: &io::Error) -> Result<(), AllocError>
+        ensures counts { self.new.ledgers ≡ self.old.ledgers }
+        ensures partial { IsTrue self.new.is_partial }
+    {
         self.is_partial = true;
         Ok(())
     }
@@ -86,7 +99,9 @@ pub(crate) fn show_named<W: Write, E: Write>(
     dead: &[u64],
     writer: &mut W,
     errors: &mut E,
-) -> Result<(), CommandFault> {
+) -> Result<(), CommandFault>
+    ensures none { dead.now ≡ [] → IsOk result }
+{
     if dead.is_empty() {
         return Ok(());
     }

@@ -1,5 +1,8 @@
 //! What a compaction would do, which is shown and not done.
 
+ghost use Rattle.std.specs.Prelude.{◌≡◌, ◌≢◌, ◌↔◌, ◌⊎◌, ◌<◌, ◌≤◌, Contains, IsNone, IsTrue, Some};
+ghost use Rattle.bk_compact_folder.specs.Planning.{copies_in, removals_in, saturated, PlansFate, ShowsFate};
+
 use crate::ask::CompactAsk;
 use crate::kept::{kept_logs, tell_kept};
 use crate::named::show_named;
@@ -155,11 +158,7 @@ fn show_plan<W: Write>(
         moved: 0,
     };
     for planned in planned.iter() {
-        let is_shown = match planned.fate {
-            Fate::Removed => !look.kept.contains(&planned.log),
-            Fate::Compacted { .. } => fault.is_none(),
-        };
-        if is_shown {
+        if is_shown(planned, look.kept, fault.is_none()) {
             let length = look.lengths.get(&planned.log).copied().unwrap_or(0);
             write_row(alloc, form, &planned_row(planned, length), writer)?;
             take_in(&mut summary, planned.fate, length);
@@ -174,19 +173,60 @@ fn show_plan<W: Write>(
     }
 }
 
+/// Returns whether a compaction would take a log: a copy only if each copy can be made, and no log that
+/// is kept whatever it has.
+fn is_shown(planned: &Planned, kept: &[u32], has_room: bool) -> bool
+    ensures removed { planned.now.fate ≡ Fate.Removed → (IsTrue result ↔ ¬ (Contains kept.now planned.now.log)) }
+    ensures copied { planned.now.fate ≢ Fate.Removed → (result ≡ has_room) }
+{
+    match planned.fate {
+        Fate::Removed => !kept.contains(&planned.log),
+        Fate::Compacted { .. } => has_room,
+    }
+}
+
 /// Returns the fault that would end a compaction for want of slots or ids for its copies; `None` if there are
 /// enough.
 fn copies_fault(planned: &[Planned], look: &Look<'_>) -> Option<StepFault> {
-    let mut copies = 0u64;
-    let mut held = look.lengths.len() as u64;
-    for planned in planned {
-        match planned.fate {
-            Fate::Compacted { .. } => copies = copies.saturating_add(1),
-            Fate::Removed => held = held.saturating_sub(1),
-        }
-    }
+    let held = (look.lengths.len() as u64).saturating_sub(removals_of(planned));
     let last = look.lengths.keys().max().copied().unwrap_or(0);
     let free = u64::from(LAST_LOG).saturating_sub(u64::from(last));
+    fault_for(copies_of(planned), held, free)
+}
+
+/// Returns the number of logs of a plan that are compacted.
+fn copies_of(planned: &[Planned]) -> u64
+    ensures { result ≡ saturated (copies_in planned.now) }
+{
+    let mut copies = 0u64;
+    for one in planned {
+        if let Fate::Compacted { .. } = one.fate {
+            copies = copies.saturating_add(1);
+        }
+    }
+    copies
+}
+
+/// Returns the number of logs of a plan that are removed at once.
+fn removals_of(planned: &[Planned]) -> u64
+    ensures { result ≡ saturated (removals_in planned.now) }
+{
+    let mut removals = 0u64;
+    for one in planned {
+        if let Fate::Removed = one.fate {
+            removals = removals.saturating_add(1);
+        }
+    }
+    removals
+}
+
+/// Returns the fault that ends so many copies, if the store holds so many other logs, and so many ids
+/// are free.
+fn fault_for(copies: u64, held: u64, free: u64) -> Option<StepFault>
+    ensures none { IsNone result ↔ ((copies ≡ 0) ⊎ ((held < 65536) × (copies ≤ free))) }
+    ensures full { result ≡ Some StepFault.LogsFull → 65536 ≤ held }
+    ensures ids { result ≡ Some StepFault.NoMoreIds → free < copies }
+{
     if copies == 0 {
         None
     } else if held >= SLOTS {
@@ -199,7 +239,9 @@ fn copies_fault(planned: &[Planned], look: &Look<'_>) -> Option<StepFault> {
 }
 
 /// Returns the line of a log that a compaction would take.
-fn planned_row(planned: &Planned, length: u64) -> PlannedRow {
+fn planned_row(planned: &Planned, length: u64) -> PlannedRow
+    ensures { ShowsFate planned.now length result }
+{
     let (fate, entries) = match planned.fate {
         Fate::Removed => ("remove", None),
         Fate::Compacted { entries, .. } => ("compact", Some(entries)),
@@ -213,7 +255,9 @@ fn planned_row(planned: &Planned, length: u64) -> PlannedRow {
 }
 
 /// Adds to the sums what would become of a log of this length.
-fn take_in(summary: &mut Summary, fate: Fate, length: u64) {
+fn take_in(summary: &mut Summary, fate: Fate, length: u64)
+    ensures { PlansFate fate length summary.old summary.new }
+{
     summary.after.bytes = summary.after.bytes.saturating_sub(length);
     match fate {
         Fate::Removed => summary.after.logs = summary.after.logs.saturating_sub(1),
