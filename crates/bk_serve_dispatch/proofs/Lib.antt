@@ -1,1 +1,2 @@
+mod ReadRuns
 mod Turns

@@ -1,18 +1,16 @@
 -- What a turn does, from what its parts do.
 use Rattle.std.proofs.Common.{◌≡◌, ◌∙◌, ℕ, List, drop, Option, Bool, true, IsTrue, ap, sym, subst, refl}
 use Rattle.std.specs.Io.KnownBytes.{Appends, Keeps}
-use Rattle.bk_serve_core.specs.declared.ended.Ended.{Ended}
-use Rattle.bk_serve_core.specs.declared.ended.Ended.TheVariants as e
 use Rattle.bk_serve_core.specs.Fields.{frame_of}
 use Rattle.bk_serve_core.specs.Reading.{ReadsFrame}
 use Rattle.bk_serve_core.specs.Requests.{Ask, close}
 use Rattle.bk_serve_core.specs.Replies.{Told, done, closed, told_bytes}
-use Rattle.bk_serve_dispatch.specs.declared.ending.End.{End}
 use Rattle.bk_serve_dispatch.specs.declared.ending.End.TheVariants as end
 use Rattle.bk_serve_dispatch.specs.declared.session.Turn.{Turn}
 use Rattle.bk_serve_dispatch.specs.declared.session.Turn.TheVariants as turn
 use Rattle.bk_serve_dispatch.specs.Frames.{Asks}
-use Rattle.bk_serve_dispatch.specs.Session.{Point, point, Exchange, Exchanges, more, rests, writes_out, Rests, idle, step, Breaks, CarriesOut, unsaid, Answers, IsTurnAfter, Turns, EndsAt, SaysClosed, Serves, IsAnswered}
+use Rattle.bk_serve_dispatch.specs.Session.{Point, point, Exchange, Exchanges, rests, writes_out, Rests, idle, step, Breaks, CarriesOut, unsaid, Answers, IsTurnAfter, TurnsBy, SaysClosed, Serves, IsAnswered}
+use Rattle.bk_serve_dispatch.specs.Runs.{no_further, nothing}
 
 exchange : {S : Type 0} (answers : S → Ask → Told → S → Type 0) (before : Point S) (after : S) (input output : Option (List ℕ)) (frame : List ℕ) (id : ℕ) (request : Ask)
     → ReadsFrame true before.input input frame → Asks before.last frame id request → IsAnswered answers before.state request id after before.output output
@@ -32,7 +30,20 @@ carries_out : {S : Type 0} (answers : S → Ask → Told → S → Type 0) (befo
     → CarriesOut answers before with_id after input
 carries_out answers before after input frame id with_id request reply reads asks same carried_out =
     subst (λ n. CarriesOut answers before n after input) (sym same)
-    (record { request = request; frame = frame; reads = reads; asks = asks; reply = reply; carried_out = carried_out })
+    (record {
+      request = request;
+      frame = frame;
+      middle = after;
+      rest = input;
+      reads = reads;
+      asks = asks;
+      reply = reply;
+      carried_out = carried_out;
+      last = id;
+      left = input;
+      ahead = no_further;
+      unused = nothing;
+    })
 
 -- the reply in a frame
 reply_in : (id : ℕ) (reply : Told) → drop 12 (frame_of id (told_bytes reply)) ≡ told_bytes reply
@@ -73,7 +84,7 @@ whole before after is frame read known same reads =
 -- a request that was read is carried out
 pub carried : {S : Type 0} (answers : S → Ask → Told → S → Type 0) (before : Point S) (after : S) (input output : Option (List ℕ)) (frame : List ℕ) (id : ℕ) (request : Ask) (t : Turn)
     → ReadsFrame true before.input input frame → Asks before.last frame id request → Answers answers before.state request id after before.output output t
-    → Turns answers before after input output t
+    → TurnsBy answers before after input output t
 carried answers before after input output frame id request (turn.Answered next) reads asks a =
     (request, a.1, subst (λ n. Exchange answers before request (point n after input output)) (sym a.0) (exchange answers before after input output frame id request reads asks a.2))
 carried answers before after input output frame id request (turn.Ended (end.Closed is_flushed)) reads asks a =
@@ -85,21 +96,6 @@ carried answers before after input output frame id request (turn.Ended (end.Faul
 carried answers before after input output frame id request (turn.Ended (end.OutputFailed with_id)) reads asks a =
     carries_out answers before after input frame id with_id request a.1.0 reads asks a.0 a.1.1
 carried answers before after input output frame id request (turn.Ended end.NotWrittenOut) reads asks a = absurd a
-
--- a turn that ends the session, after exchanges
-pub ended : {S : Type 0} (answers : S → Ask → Told → S → Type 0) (works : S → S → Type 0) (start : Point S) (last : ℕ) (state after : S) (input output input_after output_after : Option (List ℕ)) (t : Turn) (how : End)
-    → Exchanges answers works start (point last state input output) → t ≡ turn.Ended how → Turns answers (point last state input output) after input_after output_after t
-    → Serves answers works start after input_after output_after how
-ended answers works start last state after input output input_after output_after t how so_far is turns =
-    (point last state input output, so_far, subst (λ x. Turns answers (point last state input output) after input_after output_after x) is turns)
-
--- a turn that answers, after exchanges
-pub answered : {S : Type 0} (answers : S → Ask → Told → S → Type 0) (works : S → S → Type 0) (start : Point S) (before : Point S) (after : S) (input output : Option (List ℕ)) (t : Turn) (id : ℕ)
-    → Exchanges answers works start before → t ≡ turn.Answered id → Turns answers before after input output t
-    → Exchanges answers works start (point id after input output)
-answered answers works start before after input output t id so_far is turns =
-    let a : Turns answers before after input output (turn.Answered id) = subst (λ x. Turns answers before after input output x) is turns in
-    more so_far a.2 a.1
 
 -- steps of the service, and further ones
 pub rested : {S : Type 0} (works : S → S → Type 0) (a b c : S) → Rests works a b → Rests works b c → Rests works a c

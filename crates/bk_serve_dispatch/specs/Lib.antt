@@ -1,3 +1,5 @@
 pub mod Frames
 pub mod Greeting
+pub mod Jobs
+pub mod Runs
 pub mod Session

@@ -11,7 +11,12 @@ use Rattle.bk_serve_dispatch.specs.declared.ending.End.{End}
 use Rattle.bk_serve_dispatch.specs.declared.ending.End.TheVariants as end
 use Rattle.bk_serve_dispatch.specs.declared.session.Turn.{Turn}
 use Rattle.bk_serve_dispatch.specs.declared.session.Turn.TheVariants as turn
+use Rattle.bk_serve_dispatch.specs.declared.runs.Next.{Next}
+use Rattle.bk_serve_dispatch.specs.declared.runs.Next.TheVariants as next
+use Rattle.bk_serve_dispatch.specs.declared.begun.Begun.{Begun}
 use Rattle.bk_serve_dispatch.specs.Frames.{Asks, Faults}
+use Rattle.bk_serve_dispatch.specs.Jobs.{Begins}
+use Rattle.bk_serve_dispatch.specs.Runs.{Ahead, ReadsOn}
 
 -- A point of a session: the id of the last request, the state of the service, the input that is
 -- left, and the output.
@@ -58,14 +63,21 @@ abbrev pub IsAnswered : {S : Type 0} → (S → Ask → Told → S → Type 0) �
 IsAnswered answers s request id t before after =
     (reply : Told) × answers s request reply t × Appends before after (frame_of id (told_bytes reply))
 
--- One request is read and carried out. Its reply is not written whole.
+-- One request is read and carried out. Its reply is not written whole. Reads after it may have been
+-- carried out too, and their replies are not written.
 pub record CarriesOut {S : Type 0} (answers : S → Ask → Told → S → Type 0) (before : Point S) (id : ℕ) (after : S) (input : Option (List ℕ)) : Type 0 where
   pub request : Ask
   pub frame : List ℕ
-  pub reads : ReadsFrame true before.input input frame
+  pub middle : S
+  pub rest : Option (List ℕ)
+  pub reads : ReadsFrame true before.input rest frame
   pub asks : Asks before.last frame id request
   pub reply : Told
-  pub carried_out : answers before.state request reply after
+  pub carried_out : answers before.state request reply middle
+  pub last : ℕ
+  pub left : Option (List ℕ)
+  pub ahead : Ahead answers id middle rest last after left
+  pub unused : ReadsOn left input
 
 -- Why a session ends at a point without a reply. A frame that could not be read has no id here. A
 -- request whose reply was not encoded was carried out.
@@ -109,16 +121,36 @@ IsTurnAfter id request frame (turn.Ended (end.Closed is_flushed)) =
     (request ≡ close) × (IsTrue is_flushed → (front : ℕ) × (drop 12 frame ≡ told_bytes (done (closed front))))
 IsTurnAfter id request frame _ = ⊥
 
--- One turn from a point: an exchange, or the end.
-abbrev pub Turns : {S : Type 0} → (S → Ask → Told → S → Type 0) → Point S → S → Option (List ℕ) → Option (List ℕ) → Turn → Type 0
-Turns answers before after input output (turn.Answered id) =
-    (request : Ask) × (is_close request ≡ false) × Exchange answers before request (point id after input output)
-Turns answers before after input output (turn.Ended how) = EndsAt answers before after input output how
-
 -- A session: exchanges, and then its end.
 abbrev pub Serves : {S : Type 0} → (S → Ask → Told → S → Type 0) → (S → S → Type 0) → Point S → S → Option (List ℕ) → Option (List ℕ) → End → Type 0
 Serves {S} answers works start after input output how =
     (middle : Point S) × Exchanges answers works start middle × EndsAt answers middle after input output how
+
+-- One turn from a point: exchanges, or exchanges and the end.
+abbrev pub Turns : {S : Type 0} → (S → Ask → Told → S → Type 0) → (S → S → Type 0) → Point S → S → Option (List ℕ) → Option (List ℕ) → Turn → Type 0
+Turns answers works before after input output (turn.Answered id) = Exchanges answers works before (point id after input output)
+Turns answers works before after input output (turn.Ended how) = Serves answers works before after input output how
+
+-- What a frame is for that was read and not begun: an exchange, or the end.
+abbrev pub TurnsBy : {S : Type 0} → (S → Ask → Told → S → Type 0) → Point S → S → Option (List ℕ) → Option (List ℕ) → Turn → Type 0
+TurnsBy answers before after input output (turn.Answered id) =
+    (request : Ask) × (is_close request ≡ false) × Exchange answers before request (point id after input output)
+TurnsBy answers before after input output (turn.Ended how) = EndsAt answers before after input output how
+
+-- What was read after the reads that were begun: nothing, or this frame, or the session ends.
+abbrev pub ReadsNext : Option (List ℕ) → Option (List ℕ) → List ℕ → Next → Type 0
+ReadsNext input input_after frame next.Pause = input_after ≡ input
+ReadsNext input input_after frame next.Frame = ReadsFrame true input input_after frame
+ReadsNext input input_after frame (next.Ended end.Over) = IsAtEnd input_after
+ReadsNext input input_after frame (next.Ended (end.Fault id why)) = id ≡ 0
+ReadsNext input input_after frame (next.Ended _) = ⊥
+
+-- Reads were begun, and something was read after them.
+pub record Gathers {S J : Type 0} (answers : S → Ask → Told → S → Type 0) (gives : J → Told → Type 0) (before : ℕ) (s : S) (input : Option (List ℕ))
+    (run : List (Begun J)) (last : ℕ) (t : S) (input_after : Option (List ℕ)) (frame : List ℕ) (what : Next) : Type 0 where
+  pub left : Option (List ℕ)
+  pub begins : Begins answers gives before s input run last t left
+  pub reads : ReadsNext left input_after frame what
 
 -- A flush is carried out. If this is true, its reply has the bytes of `flushed`.
 pub record Flushes {S : Type 0} (answers : S → Ask → Told → S → Type 0) (s : S) (is : Bool) (t : S) : Type 0 where

@@ -1,17 +1,22 @@
 //! A session after its hello.
 
-ghost use Rattle.std.specs.Prelude.{◌≡◌, IsTrue};
+ghost use Rattle.std.specs.Prelude.{◌≡◌, ◌≤◌, ℕ, List, Option, length, true, IsTrue};
 ghost use Rattle.std.specs.Io.KnownBytes.{Keeps};
-ghost use Rattle.bk_serve_dispatch.specs.Session.{Answers, IsTurnAfter, Rests, Serves, Turns, point};
+ghost use Rattle.bk_serve_core.specs.Reading.{ReadsFrame};
+ghost use Rattle.bk_serve_dispatch.specs.Session.{Answers, IsTurnAfter, Rests, Serves, Turns, TurnsBy, point};
 ghost use Rattle.bk_serve_core.specs.Requests.{ask};
 
 use crate::ending::{End, closed_in};
 use crate::input::Input;
 use crate::judging::judge;
+use crate::runs::{Gathered, Next, gather, tell_all};
 use crate::service::Service;
-use bk_serve_core::{Ended, FrameFault, LONGEST_FRAME, Request, read_frame};
+use crate::threads::{Readers, carry_run};
+use bk_serve_core::{Ended, FrameFault, LONGEST_FRAME, Request};
 use std::alloc::Global;
-use std::io::{Read, Write};
+use std::io::Write;
+use std::rt::Clock;
+use std::thread::Threads;
 
 /// Number of requests after which a step of the service is due although requests wait.
 const PATIENCE: u64 = 256;
@@ -92,30 +97,55 @@ fn answer<S: Service, W: Write>(
     turn_after(id, request, out)
 }
 
-/// Reads a frame, carries out its request and writes the reply.
-fn take_turn<S: Service, R: Read, W: Write>(
+/// Carries out the request of a frame and writes the reply, unless the frame ends the session.
+fn take_frame<S: Service, W: Write>(
     service: &mut S,
-    reader: &mut R,
     writer: &mut W,
     last: u64,
     buffers: &mut Buffers,
 ) -> Turn
-    ensures { Turns S.answers (point last service.old (R.remaining reader.old) (W.contents writer.old))
-        service.new (R.remaining reader.new) (W.contents writer.new) result }
+    requires { 9 ≤ length buffers.old.frame.items }
+    ensures { (input input_after : Option (List ℕ)) → ReadsFrame true input input_after buffers.old.frame.items
+        → TurnsBy S.answers (point last service.old input (W.contents writer.old)) service.new input_after (W.contents writer.new) result }
 {
-    match read_frame(reader, &mut buffers.frame) {
-        Ok(true) => {}
-        Ok(false) => return Turn::Ended(End::Over),
-        Err(fault) => {
-            return Turn::Ended(End::Fault {
-                id: 0,
-                ended: unread(fault),
-            });
-        }
-    }
     match judge(&buffers.frame, last) {
         Ok((id, request)) => answer(service, writer, id, &request, &mut buffers.out),
         Err((id, ended)) => Turn::Ended(End::Fault { id, ended }),
+    }
+}
+
+/// Reads a frame, carries out its request and writes the reply. If it is a read that is begun ahead,
+/// does the same with the reads after it that are there, as one run. Counts the requests in `served`.
+fn take_turn<H: Threads + Clock + Sync, S: Service, R: Input, W: Write>(
+    readers: &Readers<H>,
+    service: &mut S,
+    reader: &mut R,
+    writer: &mut W,
+    last: u64,
+    served: &mut u64,
+    buffers: &mut Buffers,
+) -> Turn
+    ensures { Turns S.answers S.works (point last service.old (R.remaining reader.old) (W.contents writer.old))
+        service.new (R.remaining reader.new) (W.contents writer.new) result }
+{
+    let mut run = Vec::new(*buffers.frame.allocator());
+    let Gathered { last, next } = gather(
+        service,
+        reader,
+        &mut run,
+        last,
+        &mut buffers.frame,
+        readers.is_ahead(),
+    );
+    *served = served.saturating_add(run.len() as u64 + 1);
+    carry_run(readers, *buffers.frame.allocator(), &mut run);
+    if let Some(end) = tell_all(run, writer, &mut buffers.out) {
+        return Turn::Ended(end);
+    }
+    match next {
+        Next::Pause => Turn::Answered(last),
+        Next::Frame => take_frame(service, writer, last, buffers),
+        Next::Ended(end) => Turn::Ended(end),
     }
 }
 
@@ -131,11 +161,12 @@ fn rest<S: Service, R: Input>(service: &mut S, reader: &R)
     }
 }
 
-/// Performs a step of the service before each 256th request.
-fn nudge<S: Service>(service: &mut S, number: u64)
+/// Performs a step of the service if this number of requests were served since the last one.
+fn nudge<S: Service>(service: &mut S, served: &mut u64)
     ensures { Rests S.works service.old service.new }
 {
-    if number % PATIENCE == 0 {
+    if *served >= PATIENCE {
+        *served = 0;
         service.work();
     }
 }
@@ -146,12 +177,12 @@ fn pause<S: Service, R: Input, W: Write>(
     service: &mut S,
     reader: &R,
     writer: &mut W,
-    number: u64,
+    served: &mut u64,
 ) -> bool
     ensures state { Rests S.works service.old service.new }
     ensures output { IsTrue result → Keeps (W.contents writer.old) (W.contents writer.new) }
 {
-    nudge(service, number);
+    nudge(service, served);
     if reader.has_frame() {
         return true;
     }
@@ -163,13 +194,18 @@ fn pause<S: Service, R: Input, W: Write>(
 }
 
 /// Serves the requests after a hello with the id `first`, until a close, the end of the input or a
-/// fault. Each request is answered by one frame with its id before the next one is read. The writer
-/// may keep replies back as long as the next frame is there.
+/// fault. Each request is carried out once, in the order of the input, and answered by one frame with
+/// its id, in the same order. The writer may keep replies back as long as the next frame is there.
+///
+/// With several `readers`, reads that follow one another and are there are a run of at most 64: they
+/// are begun one after another, then carried out in any order, by these threads if they take long,
+/// and then answered. With one reader, each request is answered before the next is read.
 ///
 /// The service performs steps of its own while no input waits, and one after every 256 requests.
 ///
 /// The fault of a frame is not written: see `finish`.
-pub fn serve_requests<S: Service, R: Input, W: Write>(
+pub fn serve_requests<H: Threads + Clock + Sync, S: Service, R: Input, W: Write>(
+    readers: &Readers<H>,
     service: &mut S,
     reader: &mut R,
     writer: &mut W,
@@ -180,11 +216,12 @@ pub fn serve_requests<S: Service, R: Input, W: Write>(
         service.new (R.remaining reader.new) (W.contents writer.new) result }
 {
     let mut last = first;
-    for number in 1..u64::MAX {
-        if !pause(service, reader, writer, number) {
+    let mut served = 0;
+    for _ in 0..u64::MAX {
+        if !pause(service, reader, writer, &mut served) {
             return End::NotWrittenOut;
         }
-        match take_turn(service, reader, writer, last, buffers) {
+        match take_turn(readers, service, reader, writer, last, &mut served, buffers) {
             Turn::Answered(id) => last = id,
             Turn::Ended(end) => return end,
         }

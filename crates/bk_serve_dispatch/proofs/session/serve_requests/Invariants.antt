@@ -2,8 +2,8 @@
 use Rattle.bk_serve_dispatch.specs.Session.{Exchanges, point}
 use Rattle.bk_serve_dispatch.proofs.session.serve_requests.Given as goal
 
-abbrev pub invariant-loop-number : goal.invariant-loop-number
-invariant-loop-number g l =
+abbrev pub invariant-loop : goal.invariant-loop
+invariant-loop g l =
     Exchanges g.S.Service.answers g.S.Service.works
     (point l.fn.first l.fn.service (g.R.Read.remaining l.fn.reader) (g.W.Write.contents l.fn.writer))
     (point l.last l.service (g.R.Read.remaining l.reader) (g.W.Write.contents l.writer))
