@@ -86,12 +86,9 @@ fn serve_input<H: Threads + Wait + Clock + Copy + Drop + Send + Sync + 'static, 
         Ok(opening) => {
             tell_ignored(&opening, errors);
             let (served, ended) = begin(rt, handle, path, options, opening.host, errors);
-            let readers = Readers {
-                handle,
-                most: options.readers as usize,
-            };
             let status = serve_host(
-                &readers,
+                handle,
+                options.readers,
                 served,
                 &mut reader,
                 &mut writer,
@@ -133,16 +130,22 @@ fn begin<H: Threads + Wait + Copy + Drop + Send + 'static>(
     }
 }
 
-/// Serves a session, and reports how many steps of the compaction failed.
+/// Serves a session, whose reads this number of threads may share. Reports how many steps of the
+/// compaction failed.
 fn serve_host<H: Threads + Wait + Clock + Drop + Sync, R: Input, W: Write>(
-    readers: &Readers<H>,
+    handle: H,
+    readers: u32,
     mut served: Served<H>,
     reader: &mut R,
     writer: &mut W,
     buffers: &mut Buffers,
     errors: &mut Stderr,
 ) -> u8 {
-    let status = serve_session(readers, &mut served, reader, writer, buffers);
+    let readers = Readers {
+        handle,
+        most: readers as usize,
+    };
+    let status = serve_session(&readers, &mut served, reader, writer, buffers);
     tell_faults(served.host.background.faults(), errors);
     status
 }
