@@ -8,6 +8,7 @@
 //                 does this write, and later ones have no space. nearly: the same, but all bytes except the
 //                 last are written. kill: the process ends before the call
 //   FAULT_STAYS   1: later calls of these kinds fail too
+//   FAULT_SLOW    microseconds that each read at a place (`pread`) waits before, as on a slow device
 //   FAULT_TRACE   a file that gets a line for each call that counts, with ! in front at the fault
 //   FAULT_SHADOW  a folder that gets what a power loss leaves: the bytes of a file at its last sync,
 //                 INODE.BIRTHS, and the names at the folder's last sync, `names`. A file whose sync failed is
@@ -29,6 +30,7 @@
 #include <sys/stat.h>
 #include <sys/syscall.h>
 #include <sys/uio.h>
+#include <time.h>
 #include <unistd.h>
 
 enum answer { PASS, FAIL, HALF, MOST_OF };
@@ -44,6 +46,7 @@ struct file {
 static const char *folder, *kinds, *how, *shadow;
 static unsigned long at;
 static int stays, trace = -1;
+static long slow;
 static atomic_ulong count;
 static struct file files[MOST];
 static size_t known;
@@ -58,6 +61,8 @@ __attribute__((constructor)) static void begin(void) {
     at = text ? strtoul(text, NULL, 10) : 0;
     text = getenv("FAULT_STAYS");
     stays = text && *text == '1';
+    text = getenv("FAULT_SLOW");
+    slow = text ? strtol(text, NULL, 10) : 0;
     text = getenv("FAULT_TRACE");
     if (text) {
         int fd = syscall(SYS_openat, AT_FDCWD, text, O_WRONLY | O_CREAT | O_APPEND | O_CLOEXEC, 0644);
@@ -265,6 +270,9 @@ ssize_t read(int fd, void *bytes, size_t length) {
 
 ssize_t pread(int fd, void *bytes, size_t length, off_t from) {
     enum answer answer = meet_fd("read", fd);
+    struct timespec wait = {slow / 1000000, slow % 1000000 * 1000};
+    if (slow)
+        syscall(SYS_nanosleep, &wait, NULL);
     return answer == FAIL ? -1 : syscall(SYS_pread64, fd, bytes, part(answer, length), from);
 }
 

@@ -4,10 +4,15 @@ The session publishes entries, deletes and fences ledgers and stores master keys
 sessions, on the files as they are and on what a power loss would leave, have to find what was answered: entries that were
 published after a refused deletion too, and no entry of a ledger whose deletion was answered. After a `close` that was refused
 the exit status has to be 1. A log is sealed before the session and one in it, so calls on their hints fail too.
+
+In further sessions reads fail that are sent ahead and that threads share. Each has to be answered in its turn, by its entry or
+by `disk`, and one failing call is told once.
 """
 
+import io
 import os
 import shutil
+import subprocess
 import sys
 
 import fault_runs
@@ -16,6 +21,8 @@ TOP = os.path.dirname(os.path.dirname(os.path.abspath(__file__)))
 sys.path.insert(0, os.path.join(TOP, "bindings", "python"))
 
 import bookie  # noqa: E402
+
+frames = bookie.frames
 
 KINDS = (
     ("write", "EIO", False),
@@ -30,6 +37,9 @@ KINDS = (
     ("make", "ENOSPC", False),
     (fault_runs.WRITING, "kill", False),
 )
+# How reads fail that threads share, how many threads do, and how often each entry is read.
+READ_KINDS = (("read", "EIO", False), ("read", "EIO", True), ("read", "short", False), ("read", "EINTR", False))
+READERS, TIMES, SECONDS = 4, 4, 60
 NO_REPLY = "no reply"
 
 
@@ -149,6 +159,24 @@ def run_steps(session, known):
     flush(session, known)
 
 
+def replies_of(data):
+    """Yields the id and the message of each reply."""
+    stream = io.BytesIO(data)
+    while (frame := frames.read_frame(stream)) is not None:
+        yield frame[0], frames.decode(frames.STATUSES, frame[1])
+
+
+def wrong_reads(asked, entries, replies, stays):
+    """Yields what is wrong of the replies to reads of which one failed, or all later ones too."""
+    if [id for id, _ in replies] != sorted(asked):
+        yield f"{len(asked)} reads get {len(replies)} replies, or not in their order"
+    for id, reply in replies:
+        if reply.name != "disk" and reply.fields.get("content") != entries[asked[id]]:
+            yield f"read {id}, of {asked[id]}, is answered by {reply.name}"
+    if not stays and [reply.name for _, reply in replies].count("disk") > 1:
+        yield "one failing call is told more than once"
+
+
 class Server:
     """The program, and the directories of a trial."""
 
@@ -175,16 +203,31 @@ class Server:
             raise RuntimeError("the sealed log has no hint")
         self.entries = known.must
 
-    def run(self, fault):
-        """Serves a session with a fault. Returns what is known then, and the calls that counted."""
+    def begin(self, fault):
+        """Makes the directory of a session with a fault. Returns the environment of the server."""
         self.room.fill(self.base, {})
         self.room.trace.unlink(missing_ok=True)
         self.room.trace.touch()
-        known = Known(self.entries)
-        environment = {
+        return {
             "LD_PRELOAD": self.shell.library, "FAULT_FOLDER": str(self.room.work), "FAULT_TRACE": str(self.room.trace),
             "FAULT_SHADOW": str(self.room.shadow), **fault.environment(),
         }  # fmt: skip
+
+    def read(self, fault):
+        """Serves reads that are sent ahead, with a fault. Returns what is wrong, and the calls that counted."""
+        environment, asked = self.begin(fault), dict(enumerate(sorted(self.entries) * TIMES, 1))
+        data = frames.encode(frames.BY_NAME["hello"], 0, {"magic": frames.MAGIC, "lowest": 1, "highest": 1})
+        for id, (ledger, entry) in asked.items():
+            data += frames.encode(frames.BY_NAME["read"], id, {"ledger": ledger, "entry": entry})
+        words = [self.path, str(self.room.logs), "--readers", str(READERS)]
+        ran = subprocess.run(words, input=data, capture_output=True, timeout=SECONDS, env={**os.environ, **environment})
+        (_, first), *replies = replies_of(ran.stdout)
+        wrong = list(wrong_reads(asked, self.entries, replies, fault.stays)) if first.name == "welcome" else []
+        return wrong, self.room.trace.read_text().splitlines()
+
+    def run(self, fault):
+        """Serves a session with a fault. Returns what is known then, and the calls that counted."""
+        environment, known = self.begin(fault), Known(self.entries)
         try:
             session = self.open(self.room.logs, **environment)
         except (bookie.Refused, bookie.Ended):
@@ -222,14 +265,31 @@ def numbers(calls, kinds, is_quick, few):
     return sorted({1 + index * found // few for index in range(few)}) if is_quick else range(1, found + 1)
 
 
+def run_reads(server, is_quick, few):
+    """Tries all faults of reads that threads share. Prints each finding, and returns the number of faults and of findings."""
+    wrong, calls = server.read(fault_runs.NO_FAULT)
+    faults, lost = 0, 0
+    for why in wrong:
+        raise RuntimeError(f"without a fault: {why}")
+    for kinds, variant, stays in READ_KINDS:
+        for at in numbers(calls, kinds, is_quick, few):
+            fault = fault_runs.Fault(kinds, variant, at, stays)
+            wrong, told = server.read(fault)
+            faults += any(line.startswith("!") for line in told)
+            for why in wrong:
+                print(f"lost: {fault}: {why}", flush=True)
+            lost += bool(wrong)
+    return faults, lost
+
+
 def run(path, shell, top, is_quick, few):
     """Tries all faults. Prints each finding, and returns the number of faults, of losses and of dead ends."""
     server = Server(path, shell, top, fault_runs.Room(shell, top))
     server.fill()
     usual, calls = server.run(fault_runs.NO_FAULT)
-    faults, lost, stuck = 0, 0, 0
     for why in usual.differences(server.open(server.room.logs)):
         raise RuntimeError(f"without a fault: {why}")
+    (faults, lost), stuck = run_reads(server, is_quick, few), 0
     for kinds, variant, stays in KINDS:
         for at in numbers(calls, kinds, is_quick, few):
             fault = fault_runs.Fault(kinds, variant, at, stays)

@@ -2,7 +2,8 @@
 
 Each session begins with requests that are answered. Then a frame is cut, too long, too short, of an unknown call, of wrong
 fields, of an id that does not rise, a second hello, or bytes by chance. The server has to answer what came before, to end by the
-fault that bindings/protocol.md names, and to keep what it answered. Every other session compacts in the background.
+fault that bindings/protocol.md names, and to keep what it answered. Every other session compacts in the background. In every
+third one threads share reads, which may stand right before that frame.
 """
 
 import random
@@ -99,10 +100,10 @@ class Hostile:
         self.findings += 1
 
     def one(self, folder, number):
-        """Sends one session, which first reads an entry of an earlier one."""
+        """Sends one session, which first reads entries of earlier ones."""
         tail, data, wanted = self.chance.choice(TAILS), HELLO, [(0, "welcome")]
-        last = 0
-        for key in self.chance.sample(sorted(self.kept), min(2, len(self.kept))):
+        last, shares, keys = 0, number % 3 == 0, sorted(self.kept)
+        for key in self.chance.choices(keys, k=self.chance.randrange(60) if shares else 2) if keys else ():
             last += self.chance.randrange(1, 9)
             data += request(last, "read", ledger=key[0], entry=key[1])
             wanted.append((last, self.kept[key]))
@@ -113,8 +114,8 @@ class Hostile:
             wanted.append((last, "accepted"))
             self.kept[number, entry] = content
         bad, end = tail(self.chance, last + self.chance.randrange(1, 9), last)
-        compacts = ["--compact", "20,80"] if number % 2 == 0 else []
-        run = subprocess.run([self.path, str(folder), *compacts], input=data + bad, capture_output=True, timeout=SECONDS)
+        words = (["--compact", "20,80"] if number % 2 == 0 else []) + (["--readers", "4"] if shares else [])
+        run = subprocess.run([self.path, str(folder), *words], input=data + bad, capture_output=True, timeout=SECONDS)
         self.judge(tail, run, wanted, end)
 
     def judge(self, tail, run, wanted, end):

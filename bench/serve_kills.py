@@ -1,8 +1,8 @@
 """Kills bk_serve at random moments of a session: for bookie-kills --serve.
 
 A client sends adds ahead, flushes, deletes, fences and stores master keys, until the server is killed. The next session has to
-find what was answered; then it goes on in the same directory. Every other session compacts in the background, and most seal
-logs that are small (`--log-limit`), so that there are many hints.
+find what was answered; then it goes on in the same directory. Every other session compacts in the background, in every third
+threads share reads, and most seal logs that are small (`--log-limit`), so that there are many hints.
 
 After each kill a session with hints and one with `--no-hints`, each on a copy of the directory, have to give the same answers.
 Before, a hint of every second copy is damaged: the session has to note it, and no other one, and an orderly end has to leave a
@@ -187,6 +187,7 @@ class Kills:
             self.compare()
         limit = self.chance.choice(LIMITS)
         words = (["--compact", "20,80"] if number % 2 == 0 else []) + (["--log-limit", limit] if limit else [])
+        words += ["--readers", "4"] if number % 3 == 0 else []
         session = bookie.Bookie([self.path, str(self.folder), *words])
         self.look(session)
         self.known = Known({})

@@ -220,7 +220,7 @@ class Model:
         cached = sum(map(len, self.unpublished.values()))
         indexed = sum(map(len, self.kept.values())) - len(self.unpublished)
         size = os.fstat(self.file.fileno()).st_size
-        return 50, (1, size, live - cached, cached, indexed, self.front, 1, len(self.trail)), b""
+        return 50, (1, size, live - cached, cached, indexed, self.front, 1, len(self.trail), 0, 0), b""
 
     def seal(self):
         published = self.flush()[1][0]

@@ -74,7 +74,7 @@ static const kind STATUSES[] = {
     {47, "flushed", 1, 0, 0},
     {48, "durable", 1, 0, 0},
     {49, "compacted", 2, 0, 0},
-    {50, "figures", 8, 0, 0},
+    {50, "figures", 10, 0, 0},
     {51, "sealed", 1, 0, 0},
     {52, "nothing_open", 0, 0, 0},
     {53, "closed", 1, 0, 0},
@@ -199,7 +199,7 @@ static int has_reply(const input *in) {
 
 /* Reads the next reply and its id. Returns -1 at the end, and if the bytes are no reply. */
 static int read_reply(input *in, uint64_t *id, bookie_reply *reply) {
-    uint8_t head[13], numbers[64];
+    uint8_t head[13], numbers[8 * BOOKIE_MOST_NUMBERS];
     if (take(in, head, sizeof head) < 0) return -1;
     size_t length = (size_t)get(head, 4);
     const kind *k = FIND(STATUSES, head[12]);

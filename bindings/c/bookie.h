@@ -67,7 +67,7 @@ enum bookie_status {
     BOOKIE_FLUSHED = 47, /* entries */
     BOOKIE_DURABLE = 48, /* front */
     BOOKIE_COMPACTED = 49, /* logs, entries */
-    BOOKIE_FIGURES = 50, /* logs, bytes, live, cached, indexed, durable, next_log, front */
+    BOOKIE_FIGURES = 50, /* logs, bytes, live, cached, indexed, durable, next_log, front, leases, failures */
     BOOKIE_SEALED = 51, /* log */
     BOOKIE_NOTHING_OPEN = 52, /* no fields */
     BOOKIE_CLOSED = 53, /* front */
@@ -116,10 +116,12 @@ enum bookie_own_status {
 
 typedef struct bookie bookie; /* opaque */
 
+#define BOOKIE_MOST_NUMBERS 10 /* no reply has more numbers */
+
 typedef struct {
-    int status;          /* of enum bookie_status, or BOOKIE_GONE, BOOKIE_INVALID */
-    uint64_t numbers[8]; /* in the order of the protocol's page */
-    uint8_t *bytes;      /* the bytes after them, length of them; bookie_reply_free frees them */
+    int status;                            /* of enum bookie_status, or BOOKIE_GONE, BOOKIE_INVALID */
+    uint64_t numbers[BOOKIE_MOST_NUMBERS]; /* in the order of the protocol's page */
+    uint8_t *bytes;                        /* the bytes after them, length of them; bookie_reply_free frees them */
     size_t length;
 } bookie_reply;
 

@@ -251,10 +251,10 @@ static void attributes(bookie *b) {
 static void figures(bookie *b) {
     bookie_reply reply;
     must("stats", bookie_stats(b, &reply), BOOKIE_FIGURES);
-    unsigned long long found[8];
-    for (int i = 0; i < 8; i++) found[i] = reply.numbers[i];
+    unsigned long long found[10];
+    for (int i = 0; i < 10; i++) found[i] = reply.numbers[i];
     const char *within = yes(found[2] <= found[1] && found[5] <= found[7]);
-    printf("figures %llu %llu %llu %s\n", found[7], found[3], found[4], within);
+    printf("figures %llu %llu %llu %s %llu %llu\n", found[7], found[3], found[4], within, found[8], found[9]);
 }
 
 static uint64_t send_large(bookie *b, uint64_t entry) {

@@ -81,7 +81,7 @@ DONE = [
     Kind(47, "flushed", ("entries",)),
     Kind(48, "durable", ("front",)),
     Kind(49, "compacted", ("logs", "entries")),
-    Kind(50, "figures", ("logs", "bytes", "live", "cached", "indexed", "durable", "next_log", "front")),
+    Kind(50, "figures", ("logs", "bytes", "live", "cached", "indexed", "durable", "next_log", "front", "leases", "failures")),
     Kind(51, "sealed", ("log",)),
     Kind(52, "nothing_open", ()),
     Kind(53, "closed", ("front",)),

@@ -138,7 +138,8 @@ def attributes(bookie):
 
 def figures(bookie):
     found = bookie.stats()
-    print("figures", found.front, found.cached, found.indexed, yes(found.live <= found.bytes and found.durable <= found.front))
+    within = yes(found.live <= found.bytes and found.durable <= found.front)
+    print("figures", found.front, found.cached, found.indexed, within, found.leases, found.failures)
 
 
 def first_session(bookie):

@@ -100,7 +100,7 @@ kinds! {
         Flushed = 47, "flushed", 1, 0, 0;
         Durable = 48, "durable", 1, 0, 0;
         Compacted = 49, "compacted", 2, 0, 0;
-        Figures = 50, "figures", 8, 0, 0;
+        Figures = 50, "figures", 10, 0, 0;
         Sealed = 51, "sealed", 1, 0, 0;
         NothingOpen = 52, "nothing_open", 0, 0, 0;
         Closed = 53, "closed", 1, 0, 0;

@@ -151,7 +151,7 @@ fn attributes(bookie: &Bookie) -> Result<(), Error> {
 fn figures(bookie: &Bookie) -> Result<(), Error> {
     let found = bookie.stats()?.numbers;
     let within = found[2] <= found[1] && found[5] <= found[7];
-    println!("figures {} {} {} {}", found[7], found[3], found[4], yes(within));
+    println!("figures {} {} {} {} {} {}", found[7], found[3], found[4], yes(within), found[8], found[9]);
     Ok(())
 }
 

@@ -1,5 +1,5 @@
 -- Counts of a store, as a pass gets them.
-use Rattle.std.specs.Prelude.{◌≡◌, ◌≤◌, length}
+use Rattle.std.specs.Prelude.{◌≡◌, ◌-◌, ◌≤◌, ◌^◌, length, min}
 use Rattle.std.specs.FinMap as map
 use Rattle.bk_cache.specs.Caches.{used_of, flush_of}
 use Rattle.bk_store.specs.Fronts.{AreDurable}
@@ -17,6 +17,7 @@ stats_of s = record {
   flushing = used_of (flush_of s.caches);
   front = length s.ledgers.trail;
   durable = s.fronts.durable;
+  failures = min s.failures (2 ^ 64 - 1);
 }
 
 -- The entry of each add whose mark is below the durable front of these counts is durable, or its

@@ -1,6 +1,7 @@
 //! Counts of the store, as one critical section on the shared state.
 
 ghost use Rattle.std.specs.Prelude.{◌≡◌, IfOk, IsTrue};
+ghost use Rattle.bk_lease.specs.Values.{CountsLeases};
 ghost use Rattle.bk_bookie.specs.Counting.{CountsMarks, TellsDurable, stats_of};
 ghost use Rattle.bk_bookie.specs.LedgerReads.{ReadTransition};
 ghost use Rattle.bk_bookie.specs.Passes.{SeenIsMonotone};
@@ -31,6 +32,24 @@ impl<L: AddLedger, D: LogDisk> Bookie<L, D> {
     {
         hold(rt, &self.guarded).stats(pass)
     }
+
+    /// Returns the number of outstanding leases, over all logs, as `Store::count_leases` does.
+    ///
+    /// No lease is granted during the call, but leases may be given back, without the lock.
+    ///
+    /// # Errors
+    ///
+    /// - `Backwards`: the trail is shorter than the pass has observed.
+    pub fn count_leases(
+        &self,
+        rt: &impl Wait,
+        pass: &mut Pass<L>,
+    ) -> Result<u64, CallFault<Infallible>>
+        ensures seen { SeenIsMonotone pass.old result pass.new }
+        ensures count { pass.new.adds ≡ pass.old.adds }
+    {
+        hold(rt, &self.guarded).count_leases(pass)
+    }
 }
 
 impl<L: AddLedger, D: LogDisk> Guarded<L, D> {
@@ -51,5 +70,21 @@ impl<L: AddLedger, D: LogDisk> Guarded<L, D> {
         // Lemma: the entries below the durable front are durable.
         let _durable = self.store.durable_front();
         Ok(self.store.stats())
+    }
+
+    /// Returns the number of outstanding leases, for a pass.
+    fn count_leases(&mut self, pass: &mut Pass<L>) -> Result<u64, CallFault<Infallible>>
+        ensures transition { ReadTransition (λ s count. CountsLeases s.keeper count) self.old.store pass.old result pass.new }
+        ensures unchanged { self.new ≡ self.old }
+        ensures count { pass.new.adds ≡ pass.old.adds }
+    {
+        if let Some(front) = self.behind(pass) {
+            return Err(CallFault::Backwards {
+                seen: pass.seen,
+                front,
+            });
+        }
+        pass.seen = self.store.front();
+        Ok(self.store.count_leases())
     }
 }

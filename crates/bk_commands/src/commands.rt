@@ -3,7 +3,6 @@
 ghost use Rattle.std.specs.Prelude.{◌≤◌};
 
 use crate::hint::run_hint;
-use crate::program::{StartFault, tell_fault};
 use bk_cli::words::{
     DATA, DIGEST, ENTRY, FILE, FIRST, FROM, LAST, LEDGER, LONG, NO_HINTS, NO_MANIFEST, OF_LEDGER,
     QUICK, RAW,
@@ -13,13 +12,14 @@ use bk_compact_folder::{CompactAsk, run_compact};
 use bk_deleted::{Deleted, DeletedAsk, deleted_in, note_deleted};
 use bk_import_seal::{run_import, run_seal};
 use bk_inspect::{
-    DataForm, Digest, DigestChoice, DirCommand, Ends, EntryRange, FolderCommand, Hints, ScanChoice,
-    run_folder_as,
+    DataForm, Digest, DigestChoice, DirCommand, Ends, EntryRange, FolderCommand, Form, Hints,
+    ScanChoice, run_folder_as,
 };
 use bk_manifest_command::run_manifest;
-use bk_messages::{DeadFault, tell_dead};
+use bk_messages::{CommandFault, DeadFault, end_early, tell_dead};
 use bk_record::{Key, LAST_ID};
 use bk_survey::{Thresholds, report_folder};
+use std::alloc::{AllocError, Global};
 use std::io::Write;
 
 /// Runs a command on a directory. Returns the program's status.
@@ -271,7 +271,7 @@ fn run_compaction<W: Write, E: Write>(
 {
     match CompactAsk::of(rt.alloc(), call) {
         Ok(ask) => run_compact(rt, call.form, call.path, &ask, writer, errors),
-        Err(_) => without_memory(errors),
+        Err(AllocError) => without_memory(rt.alloc(), call.form, errors),
     }
 }
 
@@ -286,10 +286,10 @@ fn deleted_by<E: Write>(
 }
 
 /// Reports that memory is refused. Returns the status.
-fn without_memory<E: Write>(errors: &mut E) -> u8
+fn without_memory<E: Write>(alloc: Global, form: Form, errors: &mut E) -> u8
     ensures { result ≤ 1 }
 {
-    tell_fault(StartFault::Memory, errors);
+    end_early(alloc, form, &CommandFault::Memory, &None, errors);
     1
 }
 

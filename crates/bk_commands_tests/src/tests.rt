@@ -1,6 +1,7 @@
 mod calls;
 mod compact;
 mod compact_kept;
+mod damaged;
 mod disk;
 mod durable;
 mod faults;
@@ -9,6 +10,7 @@ mod hint;
 mod json;
 mod lacking;
 mod manifest;
+mod memory;
 mod opening;
 mod over;
 mod quick;

@@ -119,6 +119,12 @@ impl<D: LogDisk> LogDisk for PowerDisk<D> {
         false
     }
 
+    fn count_failures(&self) -> u64 {
+        self.inner
+            .count_failures()
+            .saturating_add(self.power.refused)
+    }
+
     fn list(&mut self, alloc: Global) -> Result<Vec<u32>, DiskFault>
         ensures honest { D.honest self.new.inner ≡ D.honest self.old.inner }
         ensures durable { IsTrue (D.honest self.old.inner)

@@ -202,6 +202,10 @@ impl LogDisk for DirDisk {
         false
     }
 
+    fn count_failures(&self) -> u64 {
+        self.failures
+    }
+
     fn list(&mut self, alloc: Global) -> Result<Vec<u32>, DiskFault> {
         let answer = self.folder.ids(alloc);
         counted(&mut self.failures, answer)

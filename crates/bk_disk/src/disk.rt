@@ -4,7 +4,7 @@
 //! files hold on an honest disk, which may fail. On any disk each call returns, honesty is
 //! unchanged, and `Disk` is returned exactly if the number of failures rises.
 
-ghost use Rattle.std.specs.Prelude.{◌≡◌, ℕ, ◌<◌, ◌^◌, Bool, false, List, length, drop, IsTrue, IsErrOf};
+ghost use Rattle.std.specs.Prelude.{◌≡◌, ℕ, ◌-◌, ◌<◌, ◌^◌, min, Bool, false, List, length, drop, IsTrue, IsErrOf};
 ghost use Rattle.std.specs.List.{All};
 ghost use Rattle.bk_record.specs.Files.{Files};
 ghost use Rattle.bk_disk.specs.Disk.{AreLogFiles, FailsExactlyOnDiskFault, Lists, Measures, Creates, Appends, Patches, Syncs};
@@ -114,6 +114,11 @@ pub trait LogDisk: Send + Drop {
     /// Calls no device.
     fn is_kept(&self, log: u32) -> bool
         ensures { IsTrue (honest self.now) → IsTrue result → IsAllDurable (files self.now) log (synced self.now) };
+
+    /// Returns how often the device has failed in calls of this disk, at most 2^64 - 1. Calls no
+    /// device.
+    fn count_failures(&self) -> u64
+        ensures { result ≡ min (failures self.now) (2 ^ 64 - 1) };
 
     /// Returns the ids of all logs, rising. After it no crash brings back a file that was removed
     /// before.

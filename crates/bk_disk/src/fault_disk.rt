@@ -131,6 +131,11 @@ impl<D: LogDisk> LogDisk for FaultDisk<D> {
         self.inner.is_kept(log)
     }
 
+    fn count_failures(&self) -> u64 {
+        let own = u64::from(self.calls.is_reached() && !self.shared);
+        self.inner.count_failures().saturating_add(own)
+    }
+
     fn list(&mut self, alloc: Global) -> Result<Vec<u32>, DiskFault>
         ensures honest { self.new.honest ≡ self.old.honest }
         ensures durable { IsTrue self.old.honest → DurableGrows self.old.synced self.old.gone self.new.synced self.new.gone }

@@ -92,6 +92,12 @@ impl LogDisk for MemDisk {
         true
     }
 
+    /// Returns 0: memory does not fail as a device.
+    fn count_failures(&self) -> u64 {
+        let _ = &self.logs;
+        0
+    }
+
     fn list(&mut self, alloc: Global) -> Result<Vec<u32>, DiskFault> {
         self.logs
             .keys()

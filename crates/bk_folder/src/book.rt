@@ -1,5 +1,8 @@
 //! The manifest of the ledgers of a directory that is written.
 
+ghost use Rattle.std.specs.Prelude.{◌≡◌, true, [], IfOk};
+ghost use Rattle.bk_folder.specs.Books.{is_unrecorded};
+
 use bk_disk::{DirDisk, DiskFault};
 use bk_drive::{Recorder, Step};
 use bk_inspect::Form;
@@ -81,7 +84,9 @@ impl Book {
     }
 
     /// Returns a book that records nothing.
-    pub fn closed(alloc: Global) -> Book {
+    pub fn closed(alloc: Global) -> Book
+        ensures { is_unrecorded result ≡ true }
+    {
         Book {
             alloc,
             recorder: None,
@@ -98,7 +103,10 @@ impl Book {
     }
 
     /// Returns the ledgers that are recorded as deleted or fenced.
-    pub fn ledgers(&self) -> Result<Listed, AllocError> {
+    pub fn ledgers(&self) -> Result<Listed, AllocError>
+        ensures deleted { is_unrecorded self.now ≡ true → IfOk result (λ listed. listed.deleted.items ≡ []) }
+        ensures fenced { is_unrecorded self.now ≡ true → IfOk result (λ listed. listed.fenced.items ≡ []) }
+    {
         match &self.recorder {
             Some(recorder) => recorder.ledgers(),
             None => Ok(Listed::none(self.alloc)),
@@ -113,7 +121,9 @@ impl Book {
     /// - `Disk`, `TooLong`: none of these deletions is recorded. If their records could not be taken
     ///   back, they may be in the file, and the next opening may find them.
     /// - `Memory`: the same, or all of them are recorded, and take effect at the next opening.
-    pub fn delete_all(&mut self, ledgers: &[u64]) -> Result<Listed, BookFault> {
+    pub fn delete_all(&mut self, ledgers: &[u64]) -> Result<Listed, BookFault>
+        ensures { is_unrecorded self.old ≡ true → IfOk result (λ listed. listed.deleted.items ≡ ledgers.now) }
+    {
         let fresh = self.fresh_of(ledgers)?;
         if let Some(recorder) = &mut self.recorder
             && !fresh.is_empty()
@@ -143,6 +153,8 @@ impl Book {
 }
 
 impl Recorder for Book {
+    ghost record_gives = { λ book _ answer _. is_unrecorded book ≡ true → answer ≡ true };
+
     /// Records a deletion or a fence of a ledger that can have an entry, unless it is recorded. Returns
     /// false if that fails, and keeps the call of the system if one failed.
     fn record(&mut self, step: &Step) -> bool {

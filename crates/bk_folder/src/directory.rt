@@ -1,5 +1,11 @@
 //! A directory with its manifests that is opened to be written, and created if it does not exist.
 
+ghost use Rattle.std.specs.Prelude.{◌≡◌, false};
+ghost use Rattle.bk_disk.specs.declared.folder_fault.FolderFault.TheVariants as folder;
+ghost use Rattle.bk_messages.specs.Disks.{are_failed_logs, is_failed_book};
+ghost use Rattle.bk_folder.specs.Openings.{is_absent, opening_way, opening_word};
+ghost use Rattle.bk_folder.specs.declared.directory.OpeningFault.TheVariants as openings;
+
 use crate::book::Book;
 use crate::folder_disk::FolderDisk;
 use crate::ignored::Ignored;
@@ -8,7 +14,9 @@ use bk_disk::{DirDisk, FaultWatch, FileFault, FolderFault};
 use bk_hint_folder::FolderHints;
 use bk_inspect::{Form, Hints, unlisted};
 use bk_manifest::ManifestError;
-use bk_messages::{BookFault, FailedCalls, LogsFault, WayOn};
+use bk_messages::{
+    BookFault, FailedCalls, LogsFault, WayOn, folder_kind, logs_kind, manifest_kind,
+};
 use std::alloc::{AllocError, Global};
 use std::fs::{self, File};
 use std::io::{self, ErrorKind, Write};
@@ -33,20 +41,38 @@ pub enum OpeningFault {
 }
 
 impl From<FolderFault> for OpeningFault {
+    ghost from_gives = { λ fault e. e ≡ openings.Folder fault };
+
     fn from(fault: FolderFault) -> OpeningFault {
         OpeningFault::Folder(fault)
     }
 }
 
 impl From<AllocError> for OpeningFault {
+    ghost from_gives = { λ _ e. e ≡ openings.Folder folder.Memory };
+
     fn from(_: AllocError) -> OpeningFault {
         OpeningFault::Folder(FolderFault::Memory)
     }
 }
 
 impl OpeningFault {
+    /// Returns its word, without what it is about.
+    pub fn kind(&self) -> &'static str
+        ensures { result.now ≡ opening_word self.now }
+    {
+        match self {
+            OpeningFault::Folder(fault) => folder_kind(fault),
+            OpeningFault::Call(_) => "disk",
+            OpeningFault::Logs(fault) => logs_kind(*fault),
+            OpeningFault::Book(fault) => manifest_kind(fault.error),
+        }
+    }
+
     /// Returns the way on, if there is one.
-    pub fn way_on(&self) -> Option<WayOn> {
+    pub fn way_on(&self) -> Option<WayOn>
+        ensures { result ≡ opening_way self.now }
+    {
         match self {
             OpeningFault::Book(fault) => WayOn::behind_book(fault.error),
             OpeningFault::Logs(fault) => WayOn::behind_logs(*fault),
@@ -120,7 +146,7 @@ fn open_recorded(
     let watch = disk.fault_watch(alloc)?;
     let book = match Book::open(alloc, &mut disk, &failed) {
         Ok(book) => book,
-        Err(fault) => return Err(of_book(alloc, fault, &watch)?),
+        Err(fault) => return Err(of_book(alloc, fault, &watch)),
     };
     match FolderDisk::kept(alloc, disk, hints) {
         Ok((disk, ignored)) => Ok(Opening {
@@ -128,36 +154,32 @@ fn open_recorded(
             book,
             ignored,
         }),
-        Err(fault) => Err(of_logs(alloc, LogsFault::from(fault), &watch)?),
+        Err(fault) => Err(of_logs(alloc, LogsFault::from(fault), &watch)),
     }
 }
 
 /// Returns why logs cannot be opened: the call of the system, if one failed.
-fn of_logs(
-    alloc: Global,
-    fault: LogsFault,
-    watch: &FaultWatch,
-) -> Result<OpeningFault, AllocError> {
+fn of_logs(alloc: Global, fault: LogsFault, watch: &FaultWatch) -> OpeningFault
+    ensures { are_failed_logs fault.fault ≡ false → result ≡ openings.Logs fault }
+{
     if fault.is_of_disk()
-        && let Some(call) = watch.last(alloc)?
+        && let Ok(Some(call)) = watch.last(alloc)
     {
-        return Ok(OpeningFault::Call(call));
+        return OpeningFault::Call(call);
     }
-    Ok(OpeningFault::Logs(fault))
+    OpeningFault::Logs(fault)
 }
 
 /// Returns why a manifest cannot be opened: the call of the system, if one failed.
-fn of_book(
-    alloc: Global,
-    fault: BookFault,
-    watch: &FaultWatch,
-) -> Result<OpeningFault, AllocError> {
+fn of_book(alloc: Global, fault: BookFault, watch: &FaultWatch) -> OpeningFault
+    ensures { is_failed_book fault.error ≡ false → result ≡ openings.Book fault }
+{
     if fault.error == ManifestError::Disk
-        && let Some(call) = watch.last(alloc)?
+        && let Ok(Some(call)) = watch.last(alloc)
     {
-        return Ok(OpeningFault::Call(call));
+        return OpeningFault::Call(call);
     }
-    Ok(OpeningFault::Book(fault))
+    OpeningFault::Book(fault)
 }
 
 /// Opens the directory at a path as its one writer, or makes it if nothing is there.
@@ -192,7 +214,9 @@ fn refused(rt: &HostRuntime, path: &str, reason: io::Error) -> FolderFault {
 }
 
 /// Returns whether nothing is there.
-fn is_missing(fault: &FolderFault) -> bool {
+fn is_missing(fault: &FolderFault) -> bool
+    ensures { result ≡ is_absent fault.now }
+{
     match fault {
         FolderFault::Refused { reason, .. } => reason.kind() == ErrorKind::NotFound,
         FolderFault::InUse { .. } | FolderFault::Memory => false,

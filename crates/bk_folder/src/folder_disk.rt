@@ -132,6 +132,13 @@ impl LogDisk for FolderDisk {
         }
     }
 
+    fn count_failures(&self) -> u64 {
+        match self {
+            FolderDisk::Plain(disk) => disk.count_failures(),
+            FolderDisk::Kept(disk) => disk.count_failures(),
+        }
+    }
+
     fn list(&mut self, alloc: Global) -> Result<Vec<u32>, DiskFault> {
         match self {
             FolderDisk::Plain(disk) => disk.list(alloc),

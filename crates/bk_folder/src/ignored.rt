@@ -1,5 +1,8 @@
 //! What an opening ignores of the logs of a directory and of their manifest.
 
+ghost use Rattle.std.specs.Prelude.{◌≡◌};
+ghost use Rattle.bk_folder.specs.Openings.{unread_word};
+
 use crate::book::tell_torn;
 use crate::folder_disk::LogsDisk;
 use bk_disk::{DiskFault, LogDisk};
@@ -101,14 +104,24 @@ impl Ignored {
                 };
                 let _ = write_row(self.alloc, form, &row, errors);
             }
-            Err(_) => {
+            Err(fault) => {
                 let row = UnknownRow {
                     note: "watermarks not looked for",
-                    why: "a log cannot be read",
+                    why: unread_of(fault),
                 };
                 let _ = write_row(self.alloc, form, &row, errors);
             }
         }
+    }
+}
+
+/// Returns why it is not known whether a log has a watermark.
+fn unread_of(fault: DiskFault) -> &'static str
+    ensures { result.now ≡ unread_word fault }
+{
+    match fault {
+        DiskFault::Memory => "memory",
+        _ => "a log cannot be read",
     }
 }
 

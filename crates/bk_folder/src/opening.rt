@@ -211,6 +211,10 @@ impl LogDisk for OpeningDisk {
         self.disk.is_kept(log)
     }
 
+    fn count_failures(&self) -> u64 {
+        self.disk.count_failures()
+    }
+
     fn list(&mut self, alloc: Global) -> Result<Vec<u32>, DiskFault> {
         let answer = self.disk.list(alloc);
         self.failed.see(&answer);

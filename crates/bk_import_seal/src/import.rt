@@ -1,14 +1,23 @@
 //! The command `import`: adds the entries of a file to a directory.
 
-ghost use Rattle.std.specs.Prelude.{◌≤◌};
+ghost use Rattle.std.specs.Prelude.{◌≡◌, ◌≤◌, ◌++◌, [], ◌∷◌, Some, OnOk};
+ghost use Rattle.std.specs.Io.KnownBytes.{Appends};
+ghost use Rattle.bk_inspect.specs.Forms.{followed};
+ghost use Rattle.bk_import.specs.declared.importing.Imported.{Imported as Counted};
+ghost use Rattle.bk_import_seal.specs.Importing.{added_line, added_text, fault_way, fault_word, import_word};
+ghost use Rattle.bk_import_seal.specs.declared.import.Fault.TheVariants as faults;
 
 use bk_cli::DEFAULTS;
 use bk_deleted::Deleted;
-use bk_disk::{FolderFault, LogDisk};
+use bk_disk::LogDisk;
 use bk_folder::{Opening, OpeningDisk, OpeningFault, open_or_make};
 use bk_import::{ImportFault, Imported, Settings, import};
 use bk_inspect::{Form, Hints};
-use bk_messages::{CommandFault, RowFault, WayOn, end_early, write_object, write_row};
+use bk_messages::{
+    CommandFault, RowFault, WayOn, end_early, open_kind, reason_kind, step_kind, write_object,
+    write_row,
+};
+use bk_store::AddFault;
 use serde::Serialize;
 use std::alloc::{AllocError, Global};
 use std::fmt::{Display, Formatter};
@@ -41,40 +50,58 @@ enum Fault {
 }
 
 impl From<OpeningFault> for Fault {
+    ghost from_gives = { λ fault e. e ≡ faults.Opening fault };
+
     fn from(fault: OpeningFault) -> Fault {
         Fault::Opening(fault)
     }
 }
 
 impl From<AllocError> for Fault {
+    ghost from_gives = { λ _ e. e ≡ faults.Memory };
+
     fn from(_: AllocError) -> Fault {
         Fault::Memory
     }
 }
 
 impl Fault {
-    /// Its name, without what it is about.
-    fn name(&self) -> &'static str {
+    /// Returns its word, without what it is about.
+    fn kind(&self) -> &'static str
+        ensures { result.now ≡ fault_word self.now }
+    {
         match self {
-            Fault::File { .. } => "unread",
-            Fault::Opening(OpeningFault::Folder(FolderFault::InUse { .. })) => "in use",
-            Fault::Opening(_) => "disk",
-            Fault::Import(ImportFault::Open(_)) => "bad log",
-            Fault::Import(ImportFault::Read(_)) => "read",
-            Fault::Import(ImportFault::BadRecord(_)) => "bad record",
-            Fault::Import(ImportFault::Add(_)) => "refused",
-            Fault::Import(ImportFault::Step(_) | ImportFault::Flush) => "step",
+            Fault::File { path: _, reason } => reason_kind(reason, "unread"),
+            Fault::Opening(fault) => fault.kind(),
+            Fault::Import(fault) => import_kind(fault),
             Fault::Memory => "memory",
         }
     }
 
     /// Returns the way on after it, if there is one.
-    fn way_on(&self) -> Option<WayOn> {
+    fn way_on(&self) -> Option<WayOn>
+        ensures { result ≡ fault_way self.now }
+    {
         match self {
             Fault::Import(ImportFault::Open(fault)) => WayOn::behind(fault),
             Fault::Opening(fault) => fault.way_on(),
-            _ => None,
+            Fault::Import(_) | Fault::File { .. } | Fault::Memory => None,
         }
+    }
+}
+
+/// Returns the word of an import that ends early.
+fn import_kind(fault: &ImportFault) -> &'static str
+    ensures { result.now ≡ import_word fault.now }
+{
+    match fault {
+        ImportFault::Open(fault) => open_kind(*fault),
+        ImportFault::Read(reason) => reason_kind(reason, "read"),
+        ImportFault::BadRecord(_) => "bad record",
+        ImportFault::Add(AddFault::Memory) => "memory",
+        ImportFault::Add(_) => "refused",
+        ImportFault::Step(fault) => step_kind(*fault),
+        ImportFault::Flush => "step",
     }
 }
 
@@ -92,12 +119,13 @@ pub fn run_import<W: Write, E: Write>(
     writer: &mut W,
     errors: &mut E,
 ) -> u8
-    ensures { result ≤ 1 }
+    ensures most { result ≤ 1 }
+    ensures told { result ≡ 0 → (imported : Counted) × Appends (followed form (W.contents writer.old)) (followed form (W.contents writer.new)) (added_line imported) }
 {
     match import_file(rt, form, path, file, deleted, no_manifest, hints, errors) {
         Ok(imported) => show(rt.alloc(), form, imported, writer, errors),
         Err(fault) => {
-            let _ = tell(rt.alloc(), form, &fault, errors);
+            tell(rt.alloc(), form, &fault, errors);
             1
         }
     }
@@ -190,6 +218,8 @@ struct ImportedRow {
 }
 
 impl Display for ImportedRow {
+    ghost output = { λ row. Some (added_text row.added row.held) };
+
     fn fmt<W: fmt::Write>(&self, f: &mut Formatter<W>) -> fmt::Result {
         write!(f, "added {} held {}", self.added, self.held)
     }
@@ -203,7 +233,8 @@ fn show<W: Write, E: Write>(
     writer: &mut W,
     errors: &mut E,
 ) -> u8
-    ensures { result ≤ 1 }
+    ensures most { result ≤ 1 }
+    ensures told { result ≡ 0 → Appends (followed form (W.contents writer.old)) (followed form (W.contents writer.new)) (added_line imported) }
 {
     let row = ImportedRow {
         added: imported.added,
@@ -224,7 +255,10 @@ fn write_flushed<W: Write>(
     form: Form,
     row: &ImportedRow,
     writer: &mut W,
-) -> Result<(), RowFault> {
+) -> Result<(), RowFault>
+    ensures { OnOk result (Appends (followed form (W.contents writer.old)) (followed form (W.contents writer.new))
+        (added_text row.now.added row.now.held ++ 10 ∷ [])) }
+{
     write_row(alloc, form, row, writer)?;
     writer.flush()?;
     Ok(())
@@ -239,32 +273,33 @@ struct FaultRow {
     help: Option<String>,
 }
 
-/// Reports why the command ends early, and the way on if there is one.
-fn tell<E: Write>(
-    alloc: Global,
-    form: Form,
-    fault: &Fault,
-    errors: &mut E,
-) -> Result<(), AllocError> {
+/// Reports why the command ends early, and the way on if there is one. A failed write is ignored.
+fn tell<E: Write>(alloc: Global, form: Form, fault: &Fault, errors: &mut E) {
+    let _ = match form {
+        Form::Text => tell_text(fault, errors),
+        Form::Json => tell_object(alloc, fault, errors),
+    };
+}
+
+/// Reports it as text.
+fn tell_text<E: Write>(fault: &Fault, errors: &mut E) -> Result<(), RowFault> {
+    writeln!(errors, "fault {fault}")?;
+    if let Some(way_on) = fault.way_on() {
+        writeln!(errors, "help: {way_on}")?;
+    }
+    Ok(())
+}
+
+/// Reports it as an object.
+fn tell_object<E: Write>(alloc: Global, fault: &Fault, errors: &mut E) -> Result<(), RowFault> {
     let help = match fault.way_on() {
         Some(way_on) => Some(format!(in alloc; "{way_on}")?),
         None => None,
     };
-    match form {
-        Form::Text => {
-            let _ = writeln!(errors, "fault {fault}");
-            if let Some(help) = help {
-                let _ = writeln!(errors, "help: {help}");
-            }
-        }
-        Form::Json => {
-            let row = FaultRow {
-                fault: fault.name(),
-                reason: format!(in alloc; "{fault}")?,
-                help,
-            };
-            let _ = write_object(alloc, &row, errors);
-        }
-    }
-    Ok(())
+    let row = FaultRow {
+        fault: fault.kind(),
+        reason: format!(in alloc; "{fault}")?,
+        help,
+    };
+    write_object(alloc, &row, errors)
 }

@@ -1,6 +1,6 @@
 //! The command `seal`: with the manifest of the logs of a directory, or without it.
 
-ghost use Rattle.std.specs.Prelude.{◌≤◌};
+ghost use Rattle.std.specs.Prelude.{◌≡◌, ◌≤◌, if◌then◌else◌};
 
 use bk_cli::FolderCall;
 use bk_cli::words::{CUT_TORN, NO_MANIFEST};
@@ -117,8 +117,16 @@ impl<'a, 'b> Sealing<'a, 'b> {
                 are_sealed = false;
             }
         }
-        if are_sealed { 0 } else { 1 }
+        status_of(are_sealed)
     }
+}
+
+/// Returns the status of a call that sealed all its logs, or left some.
+fn status_of(are_sealed: bool) -> u8
+    ensures most { result ≤ 1 }
+    ensures status { result ≡ (if are_sealed then 0 else 1) }
+{
+    if are_sealed { 0 } else { 1 }
 }
 
 /// Seals a log of a directory whose manifest is left alone.
@@ -155,5 +163,5 @@ fn seal_all_plain<W: Write, E: Write>(
             are_sealed = false;
         }
     }
-    if are_sealed { 0 } else { 1 }
+    status_of(are_sealed)
 }

@@ -149,6 +149,10 @@ impl<'a> LogDisk for CutFolder<'a> {
         self.disk.is_kept(log)
     }
 
+    fn count_failures(&self) -> u64 {
+        self.disk.count_failures()
+    }
+
     fn list(&mut self, alloc: Global) -> Result<Vec<u32>, DiskFault> {
         self.disk.list(alloc)
     }

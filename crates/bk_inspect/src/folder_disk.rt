@@ -132,6 +132,10 @@ impl<'a, D: LogDisk> LogDisk for Folder<'a, D> {
         self.disk.is_kept(log)
     }
 
+    fn count_failures(&self) -> u64 {
+        self.disk.count_failures()
+    }
+
     fn list(&mut self, alloc: Global) -> Result<Vec<u32>, DiskFault> {
         match look_over(&self.rt, alloc, self.path) {
             Ok(Some(found)) => {

@@ -14,7 +14,7 @@ use Rattle.bk_lease.specs.declared.rule.Role.{Role}
 use Rattle.bk_lease.specs.declared.rule.Role.TheVariants.{Keeper}
 use Rattle.bk_lease.specs.Leases.{state_at, log_of, log_at, MayOpen, IsOpen}
 use Rattle.bk_lease.specs.Steps.{SeatView, with_slot, Meets, CountsSeats}
-use Rattle.bk_lease.specs.Values.{SlotTable, with_state, with_given, register_at_rest, given_in, AllowsLeaseCount, IsAtRest}
+use Rattle.bk_lease.specs.Values.{SlotTable, with_state, with_given, register_at_rest, given_in, AllowsLeaseCount, AllowsCountIn, IsAtRest}
 use Rattle.bk_lease.proofs.Slots.{inside_slots}
 
 -- register of the keeper between two calls
@@ -58,6 +58,12 @@ module _ {k : Inside} {keeper : SlotTable} (d : SeenAs k keeper) where
 
   pub meets_seen : (slot met : ℕ) → Meets (its_register k) slot met → AllowsLeaseCount keeper slot met
   meets_seen slot met meets = subst (λ (t : SlotTable). AllowsLeaseCount t slot met) d.is meets
+
+  -- a number that the rule allows of an open slot
+  pub open_seen : (slot log count : ℕ) → state_at k.slots.items slot ≡ Open log → AllowsLeaseCount keeper slot count
+      → AllowsCountIn keeper slot (state_at keeper.slots slot) count
+  open_seen slot log count is allows = let there : Open log ≡ state_at keeper.slots slot = sym is ∙ ap (λ (t : SlotTable). state_at t.slots slot) d.is in
+      subst (λ (s : Slot). AllowsCountIn keeper slot s count) there allows
 
   most_inside : k.most ≡ keeper.most
   most_inside = ap (λ (t : SlotTable). t.most) d.is

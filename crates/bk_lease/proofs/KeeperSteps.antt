@@ -18,7 +18,7 @@ use Rattle.bk_lease.specs.declared.rule.Role.TheVariants.{Keeper, Held}
 use Rattle.bk_lease.specs.declared.rule.Room.{Room}
 use Rattle.bk_lease.specs.Leases.{state_at, held_on, open_word, closed_word, MayOpen, WordIs, RuledBy, IsRuled, first_register, first_role}
 use Rattle.bk_lease.specs.Steps.{SeatView, with_slot, with_pending, with_granted, pin_on, Advances, Meets, CountsSeats, open_step, pin_step, undo_step, role_by}
-use Rattle.bk_lease.specs.Steps.{split_keeper_step, split_seat_step, close_step, free_step}
+use Rattle.bk_lease.specs.Steps.{split_keeper_step, split_seat_step, close_step, count_step, free_step}
 use Rattle.bk_lease.proofs.Views.{some_inside}
 use Rattle.bk_lease.proofs.Words.{one_more, one_less}
 use Rattle.bk_lease.proofs.Ruled.{Rule, the_keeper}
@@ -125,6 +125,11 @@ module _ (slots id i : ℕ) (me : SeatView) (p : Register) (knows : me.0 ≡ Kee
         subst (λ b. IsRuled (set s.words i (either b new x)) (set s.views id me.0)) (sym (ne_eqb x old miss)) (ruled_still a i),
         on_open a i (tells me) log is ((λ hit. absurd (miss hit)), λ _. (refl, (held_on i s.views, omega arith, counts))),
       ))
+
+  pub counts : (log : ℕ) → state_at p.slots i ≡ Open log → p.pending ≡ None → Allows Rule slots id me i (λ n. n) (count_step (step slots i 0 0 none) me)
+  counts log is idle s ruled _ at _ = let a = at_keeper id me p s knows ruled at in
+      let tells : Register → ℕ → Type 0 = λ r l. (met : ℕ) × CountsSeats r i l (get_or s.words i 0) met in
+      (me.0, keeps, tt, ruled_still a i, (refl, on_open a i tells log is (held_on i s.views, counts_held a i log is idle)))
 
   pub frees : (log : ℕ) → state_at p.slots i ≡ Closed log → Allows Rule slots id me i (λ _. 0) (λ _. free_step (step slots i 0 0 none) me 0)
   frees log is s ruled _ at _ = let a = at_keeper id me p s knows ruled at in (

@@ -7,3 +7,4 @@ pub mod KeeperSteps
 pub mod LeaseSteps
 pub mod KeeperSeen
 pub mod CloseResults
+pub mod LeaseCounts

@@ -112,6 +112,14 @@ close_made slots slot log = step slots slot (open_word log 0) (closed_word log) 
 abbrev pub close_result : ℕ → ℕ → Result (Unit {0}) ℕ
 close_result log found = if found == open_word log 0 then Ok tt else Err (found % 2 ^ 32)
 
+-- count: nothing changes
+abbrev pub count_step : OneStep → SeatView → ℕ → SeatView → Type 0
+count_step made me found me' = (me' ≡ me) × OnOpen made me (λ register log. (met : ℕ) × CountsSeats register made.word log found met)
+
+-- the operation of a count: the word is read
+abbrev pub count_made : ℕ → ℕ → OneStep
+count_made slots slot = step slots slot 0 0 none
+
 -- free: the slot is free
 abbrev pub free_step : OneStep → SeatView → ℕ → SeatView → Type 0
 free_step made me found me' = Advances me me' (λ register. with_slot register made.word Free)

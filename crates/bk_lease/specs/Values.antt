@@ -1,14 +1,14 @@
 -- Specification values of a keeper, a seat and a lease (`SlotTable`, `Ticket`, `LeasedView`), and
 -- the type invariants.
-use Rattle.std.specs.Prelude.{◌≡◌, ℕ, ◌+◌, ◌^◌, ◌<◌, Bool, true, false, List, [], length, slice_set, Option, Some, None}
+use Rattle.std.specs.Prelude.{◌≡◌, ℕ, ◌+◌, ◌-◌, ◌^◌, ◌<◌, min, Bool, true, false, List, [], length, slice_index, slice_set, sum, Option, Some, None}
 use Rattle.atomic_table.specs.Seated.{TableId}
 use Rattle.atomic_table.specs.declared.shared.Seat.{Seat}
 use Rattle.bk_lease.specs.declared.slot.Slot.{Slot}
-use Rattle.bk_lease.specs.declared.slot.Slot.TheVariants.{Closed}
+use Rattle.bk_lease.specs.declared.slot.Slot.TheVariants.{Free, Open, Closed}
 use Rattle.bk_lease.specs.declared.rule.Register.{Register}
 use Rattle.bk_lease.specs.declared.rule.Role.{Role}
 use Rattle.bk_lease.specs.declared.rule.Role.TheVariants.{Keeper, Held, Spent}
-use Rattle.bk_lease.specs.Leases.{log_at, IsClosed}
+use Rattle.bk_lease.specs.Leases.{state_at, log_at, IsClosed}
 use Rattle.bk_lease.specs.Steps.{SeatView, Meets}
 
 -- KEEPER
@@ -45,6 +45,20 @@ given_in Spent = 0
 -- the lease rule allows this number of seats on the slot for the keeper's view
 abbrev pub AllowsLeaseCount : SlotTable → ℕ → ℕ → Type 0
 AllowsLeaseCount keeper slot count = Meets (register_at_rest keeper.slots keeper.most keeper.given) slot count
+
+-- the same of a slot in this state: only an open slot has leases
+abbrev pub AllowsCountIn : SlotTable → ℕ → Slot → ℕ → Type 0
+AllowsCountIn keeper slot Free count = count ≡ 0
+AllowsCountIn keeper slot (Open log) count = AllowsLeaseCount keeper slot count
+AllowsCountIn keeper slot (Closed log) count = count ≡ 0
+
+-- the total is the sum of one number for each slot, which the lease rule allows of that slot, and at
+-- most 2^64 - 1
+pub record CountsLeases (keeper : SlotTable) (total : ℕ) : Type 0 where
+  pub counts : List ℕ
+  pub one_each : length counts ≡ length keeper.slots
+  pub allowed : (slot : ℕ) → AllowsCountIn keeper slot (state_at keeper.slots slot) (slice_index counts slot)
+  pub sum_is : total ≡ min (sum counts) (2 ^ 64 - 1)
 
 -- type invariant of `Keeper`: its seat is the first of the table, and its view has these slots
 pub record IsAtRest (seat : Seat (Unit {0}) Role) (table : TableId) (slots : List Slot) (most : ℕ) : Type 0 where

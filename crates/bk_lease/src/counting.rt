@@ -1,11 +1,12 @@
-//! The two steps of a keeper that count a slot's leases. Each answers with the count in the word
-//! that the step found.
+//! The steps of a keeper that count a slot's leases. Each answers with the count in the word that
+//! the step found.
 ghost use Rattle.std.specs.Prelude.{◌≡◌, ℕ, ◌%◌, ◌^◌, ◌<◌};
 ghost use Rattle.bk_lease.specs.Steps.{IsIdleOn, IsOpenFor, pin_made, close_made, pin_step, close_step, close_result};
+ghost use Rattle.bk_lease.specs.Steps.{count_made, count_step};
 ghost use Rattle.bk_lease.specs.Values.{IsSameSeat};
 
 use crate::rule::{Board, Role};
-use crate::steps::{CloseStep, PinStep};
+use crate::steps::{CloseStep, CountStep, PinStep};
 use crate::word;
 use atomic_table::Seat;
 
@@ -21,6 +22,19 @@ pub(crate) fn pinned(table: &Board, seat: &mut Seat<(), Role>, slot: usize) -> u
 {
     let found = table.shared.fetch_add::<PinStep>(seat, slot, 1);
     word::count_of(found)
+}
+
+/// Makes the step that reads the word of an open slot. Returns the number of leases that it met.
+pub(crate) fn counted(table: &Board, seat: &mut Seat<(), Role>, slot: usize) -> u64
+    requires seated { seat.old.table_id ≡ table.now.shared.table_id }
+    requires inside { slot < table.now.shared.table_id.words }
+    requires idle { IsIdleOn seat.old.me slot }
+    ensures same { IsSameSeat seat.old seat.new }
+    ensures met { (found : ℕ) × count_step (count_made table.now.shared.table_id.slots slot) seat.old.me found seat.new.me
+        × (result ≡ found % 2 ^ 32) }
+{
+    let read = table.shared.load::<CountStep>(seat, slot);
+    word::count_of(read)
 }
 
 /// Makes the step of a close on a slot that is open for this log: closes the slot if the log has no

@@ -9,7 +9,7 @@ ghost use Rattle.bk_lease.specs.Leases.{state_at, log_at, IsOpen, IsClosed, MayO
 ghost use Rattle.bk_lease.specs.Slots.{IsFree, taken_count};
 
 use crate::answers::{Closed, Leased, PinFault};
-use crate::counting::{closed, pinned};
+use crate::counting::{closed, counted, pinned};
 use crate::lease::Lease;
 use crate::rule::{Board, Role};
 use crate::seat::LeaseSeat;
@@ -57,7 +57,7 @@ impl Model for Keeper {
 impl Keeper {
     ghost use Rattle.std.specs.Arc.{arc_value};
     ghost use Rattle.bk_lease.specs.Values.{SlotTable, IsAtRest, given_in, with_state, with_closed};
-    ghost use Rattle.bk_lease.specs.Values.{with_given, new_ticket, AllowsLeaseCount};
+    ghost use Rattle.bk_lease.specs.Values.{with_given, new_ticket, AllowsLeaseCount, AllowsCountIn, CountsLeases};
 
     pub(crate) fn new(
         table: Arc<Board>,
@@ -181,6 +181,35 @@ impl Keeper {
         shared.store::<FreeStep>(&mut self.seat, closed.slot, 0);
         self.slots[closed.slot] = Slot::Free;
         self.last = closed.slot;
+    }
+
+    /// Returns the number of outstanding leases, over all logs, at most 2^64 - 1.
+    ///
+    /// It is the sum of one number for each slot: of an open slot the leases of its log at one step
+    /// of the call, of any other slot 0. Other threads may give leases back between these steps. So
+    /// the sum is at most the number of leases when the call begins, and at least the number when
+    /// it ends. One load for each open slot, in order; no wait.
+    pub fn count_leases(&mut self) -> u64
+        ensures unchanged { self.new ≡ self.old }
+        ensures counts { CountsLeases self.old result }
+    {
+        let mut total = 0u64;
+        for slot in 0..self.slots.len() {
+            total = total.saturating_add(self.leases_on(slot));
+        }
+        total
+    }
+
+    /// Returns the number of leases on a slot at one step of the call.
+    fn leases_on(&mut self, slot: usize) -> u64
+        requires { slot < length self.old.slots }
+        ensures unchanged { self.new ≡ self.old }
+        ensures count { AllowsCountIn self.old slot (state_at self.old.slots slot) result }
+    {
+        match self.slots[slot] {
+            Slot::Open(_) => counted(&self.table, &mut self.seat, slot),
+            Slot::Free | Slot::Closed(_) => 0,
+        }
     }
 
     /// Theorem: no lease holds a slot that this keeper has closed. A caller that has both calls

@@ -1,6 +1,6 @@
 //! The atomic steps on a slot's word. `specs/Steps.antt` states the effect of each.
 ghost use Rattle.bk_lease.specs.Steps.{open_step, pin_step, split_keeper_step, split_seat_step, undo_step, release_step};
-ghost use Rattle.bk_lease.specs.Steps.{close_step, free_step, met, no_step};
+ghost use Rattle.bk_lease.specs.Steps.{close_step, count_step, free_step, met, no_step};
 
 use crate::rule::Role;
 use atomic_table::{Join, Play, Split};
@@ -43,6 +43,12 @@ pub(crate) struct CloseStep;
 
 impl Play<(), Role> for CloseStep {
     ghost then = { close_step };
+}
+
+pub(crate) struct CountStep;
+
+impl Play<(), Role> for CountStep {
+    ghost then = { count_step };
 }
 
 pub(crate) struct FreeStep;

@@ -1,6 +1,6 @@
 //! A manifest that is kept in a file.
 
-ghost use Rattle.std.specs.Prelude.{◌≡◌, ◌++◌, ◌∷◌, ◌≤◌, ◌^◌, ℕ, Bool, List, [], length, take, IsTrue, IsErrOf, IfOk, IfErr, IfSome, IfNone, OnOk, OnErr, Ok, Err};
+ghost use Rattle.std.specs.Prelude.{◌≡◌, ◌++◌, ◌∷◌, ◌≤◌, ◌-◌, ◌^◌, min, ℕ, Bool, List, [], length, take, IsTrue, IsErrOf, IfOk, IfErr, IfSome, IfNone, OnOk, OnErr, Ok, Err};
 ghost use Rattle.bk_manifest.specs.Fact.{Fact, fact, facts, AreFacts};
 ghost use Rattle.bk_manifest.specs.State.{IsStateOf, SameMeaning, without_deletions};
 ghost use Rattle.bk_manifest.specs.declared.fault.Fault.{Fault};
@@ -28,6 +28,11 @@ pub trait ManifestFile: Drop {
     ghost honest: { Self → Bool };
 
     ghost failures: { Self → ℕ };
+
+    /// Returns how often the device has failed in calls of this file, at most 2^64 - 1. Calls no
+    /// device.
+    fn count_failures(&self) -> u64
+        ensures { result ≡ min (failures self.now) (2 ^ 64 - 1) };
 
     /// Returns the bytes of the file; none if there is no file. Changes nothing, also on an error.
     fn read(&mut self, alloc: Global) -> Result<Vec<u8>, FileFault>

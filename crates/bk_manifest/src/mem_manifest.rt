@@ -58,6 +58,13 @@ impl ManifestFile for MemManifest {
 
     ghost failures = { λ file. failures_of file.plan };
 
+    fn count_failures(&self) -> u64 {
+        match self.plan {
+            Plan::Never | Plan::After(_) => 0,
+            Plan::Failed => 1,
+        }
+    }
+
     fn read(&mut self, alloc: Global) -> Result<Vec<u8>, FileFault> {
         if self.plan.is_failing() {
             return Err(FileFault::Disk);

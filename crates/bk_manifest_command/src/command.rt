@@ -1,21 +1,21 @@
 //! The call of the command `manifest`, and what it shows of a manifest.
 
-ghost use Rattle.std.specs.Prelude.{◌≤◌};
+ghost use Rattle.std.specs.Prelude.{◌≡◌, ◌≤◌, false};
 
-use crate::fault::ManifestFault;
+use crate::fault::{ManifestFault, Which};
 use crate::rebuild::rebuild;
 use crate::rows::{FileRow, NoneRow, RecordRow};
 use crate::take_logs::take_logs;
 use bk_cli::FolderCall;
 use bk_cli::words::{CHECK, REBUILD};
 use bk_inspect::{Form, are_ends_whole};
-use bk_ledgers::{LEDGERS, Read, read_file};
-use bk_manifest_disk::LOGS;
+use bk_ledgers::{Read, read_file};
 use bk_messages::write_row;
+use std::alloc::Global;
 use std::io::Write;
 
-/// Names of the manifests of a directory.
-const NAMES: [&str; 2] = [LEDGERS, LOGS];
+/// The manifests of a directory.
+const MANIFESTS: [Which; 2] = [Which::Ledgers, Which::Logs];
 
 /// Shows the manifests of a directory, or checks or rebuilds them. Returns the program's status: 0, or
 /// 1 with `fault TEXT` on the error stream if one cannot be read or is damaged; without it if nobody
@@ -31,8 +31,8 @@ pub fn run_manifest<W: Write, E: Write>(
 {
     let mut is_done = true;
     let mut is_there = false;
-    for name in &NAMES {
-        match run_on(rt, call, name, writer) {
+    for which in &MANIFESTS {
+        match run_on(rt, call, *which, writer) {
             Ok(true) => is_there = true,
             Ok(false) => {}
             Err(fault) => {
@@ -52,33 +52,49 @@ pub fn run_manifest<W: Write, E: Write>(
     if call.has(&CHECK) && !are_ends_whole(rt, call.form, call.path, errors) {
         is_done = false;
     }
+    end(rt.alloc(), call.form, is_done, writer, errors)
+}
+
+/// Flushes the output. Returns the status: 0 if all was done.
+fn end<W: Write, E: Write>(
+    alloc: Global,
+    form: Form,
+    is_done: bool,
+    writer: &mut W,
+    errors: &mut E,
+) -> u8
+    ensures most { result ≤ 1 }
+    ensures failed { is_done ≡ false → result ≡ 1 }
+{
     match writer.flush() {
         Ok(()) if is_done => 0,
         Ok(()) => 1,
         Err(error) => {
-            ManifestFault::Output(error).tell(rt.alloc(), call.form, errors);
+            ManifestFault::Output(error).tell(alloc, form, errors);
             1
         }
     }
 }
 
-/// Shows, checks or rebuilds the manifest of this name. Returns whether there is one.
+/// Shows, checks or rebuilds a manifest. Returns whether there is one.
 fn run_on<W: Write>(
     rt: &HostRuntime,
     call: &FolderCall<'_>,
-    name: &'static str,
+    which: Which,
     writer: &mut W,
 ) -> Result<bool, ManifestFault> {
-    if call.has(&REBUILD) && name == LOGS {
-        return take_logs(rt, call.form, call.path, writer);
-    }
     if call.has(&REBUILD) {
-        return rebuild(rt, call.form, call.path, name, writer);
+        return match which {
+            Which::Ledgers => rebuild(rt, call.form, call.path, which.name(), writer),
+            Which::Logs => take_logs(rt, call.form, call.path, writer),
+        };
     }
-    let Some(found) = read_file(rt, call.path, name)? else {
-        return Ok(false);
+    let found = match read_file(rt, call.path, which.name()) {
+        Ok(Some(found)) => found,
+        Ok(None) => return Ok(false),
+        Err(fault) => return Err(ManifestFault::Read { which, fault }),
     };
-    show_file(rt, call.form, name, &found, writer)?;
+    show_file(rt, call.form, which.name(), &found, writer)?;
     if !call.has(&CHECK) {
         show_records(rt, call.form, &found, writer)?;
     }

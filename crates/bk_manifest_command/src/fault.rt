@@ -1,22 +1,65 @@
 //! Why a manifest is not shown or made anew, and its report.
 
+ghost use Rattle.std.specs.Prelude.{◌≡◌};
+ghost use Rattle.bk_manifest_command.specs.Damage.{name_of, rebuild_of};
+ghost use Rattle.bk_manifest_command.specs.Faults.{of_disk, of_read, of_row, of_write, way_after, word_of};
+ghost use Rattle.bk_manifest_command.specs.declared.fault.ManifestFault.TheVariants as faults;
+
 use bk_disk::{DiskFault, FileFault, FolderFault};
 use bk_inspect::Form;
-use bk_ledgers::ReadFault;
-use bk_manifest::{ReadError, WriteError};
-use bk_messages::{RowFault, WayOn, write_object};
+use bk_ledgers::{LEDGERS, ReadFault};
+use bk_manifest::{Fault, ReadError, WriteError};
+use bk_manifest_disk::LOGS;
+use bk_messages::{RowFault, WayOn, disk_kind, folder_kind, read_kind, reason_kind, write_object};
 use serde::Serialize;
 use std::alloc::{AllocError, Global};
 use std::io;
 use std::io::Write;
 use thiserror::Error;
 
+/// A manifest of a directory.
+#[derive(Clone, Copy, Debug, PartialEq, Eq)]
+pub(crate) enum Which {
+    /// That of the ledgers.
+    Ledgers,
+    /// That of the logs.
+    Logs,
+}
+
+impl Which {
+    /// Returns the name of its file.
+    pub(crate) fn name(self) -> &'static str
+        ensures { result.now ≡ name_of self }
+    {
+        match self {
+            Which::Ledgers => LEDGERS,
+            Which::Logs => LOGS,
+        }
+    }
+
+    /// Returns the way on if it is damaged.
+    fn way_on(self) -> WayOn
+        ensures { result ≡ rebuild_of self }
+    {
+        match self {
+            Which::Ledgers => WayOn::RebuildManifest,
+            Which::Logs => WayOn::RebuildLogs,
+        }
+    }
+}
+
 /// Why a manifest is not shown or made anew. Its text is what the program reports.
 #[derive(Debug, Drop, Error)]
 pub(crate) enum ManifestFault {
-    /// It cannot be read, or is damaged.
+    /// This manifest cannot be read, or is damaged.
+    #[error("{fault}")]
+    Read { which: Which, fault: ReadFault },
+    /// The bytes before the damage are damaged too, which does not occur.
     #[error("{0}")]
-    Read(ReadFault),
+    Front(Fault),
+    /// The records have too many bytes for a batch.
+    #[error("batch too long")]
+    TooLong,
     /// The directory cannot be opened to be written.
     #[error("{0}")]
     Folder(FolderFault),
@@ -37,19 +80,17 @@ pub(crate) enum ManifestFault {
     Memory,
 }
 
-impl From<ReadFault> for ManifestFault {
-    fn from(fault: ReadFault) -> ManifestFault {
-        ManifestFault::Read(fault)
-    }
-}
-
 impl From<FolderFault> for ManifestFault {
+    ghost from_gives = { λ fault e. e ≡ faults.Folder fault };
+
     fn from(fault: FolderFault) -> ManifestFault {
         ManifestFault::Folder(fault)
     }
 }
 
 impl From<DiskFault> for ManifestFault {
+    ghost from_gives = { λ fault e. e ≡ of_disk fault };
+
     fn from(fault: DiskFault) -> ManifestFault {
         match fault {
             DiskFault::Memory => ManifestFault::Memory,
@@ -59,24 +100,38 @@ impl From<DiskFault> for ManifestFault {
 }
 
 impl From<AllocError> for ManifestFault {
+    ghost from_gives = { λ _ e. e ≡ faults.Memory };
+
     fn from(_error: AllocError) -> ManifestFault {
         ManifestFault::Memory
     }
 }
 
 impl From<WriteError> for ManifestFault {
-    fn from(_error: WriteError) -> ManifestFault {
-        ManifestFault::Memory
+    ghost from_gives = { λ error e. e ≡ of_write error };
+
+    fn from(error: WriteError) -> ManifestFault {
+        match error {
+            WriteError::Memory => ManifestFault::Memory,
+            WriteError::TooLong => ManifestFault::TooLong,
+        }
     }
 }
 
 impl From<ReadError> for ManifestFault {
-    fn from(_error: ReadError) -> ManifestFault {
-        ManifestFault::Memory
+    ghost from_gives = { λ error e. e ≡ of_read error };
+
+    fn from(error: ReadError) -> ManifestFault {
+        match error {
+            ReadError::Memory => ManifestFault::Memory,
+            ReadError::Fault(fault) => ManifestFault::Front(fault),
+        }
     }
 }
 
 impl From<RowFault> for ManifestFault {
+    ghost from_gives = { λ fault e. e ≡ of_row fault };
+
     fn from(fault: RowFault) -> ManifestFault {
         match fault {
             RowFault::Output(error) => ManifestFault::Output(error),
@@ -95,27 +150,36 @@ struct FaultRow {
 }
 
 impl ManifestFault {
-    /// Its name, without what it is about.
-    fn name(&self) -> &'static str {
+    /// Returns its word, without what it is about.
+    fn kind(&self) -> &'static str
+        ensures { result.now ≡ word_of self.now }
+    {
         match self {
-            ManifestFault::Read(ReadFault::Bad { .. }) => "bad manifest",
-            ManifestFault::Folder(FolderFault::InUse { .. }) => "in use",
-            ManifestFault::Read(ReadFault::Memory)
-            | ManifestFault::Folder(FolderFault::Memory)
-            | ManifestFault::Memory => "memory",
-            ManifestFault::Read(_)
-            | ManifestFault::Folder(_)
-            | ManifestFault::Call(_)
-            | ManifestFault::Disk(_) => "disk",
+            ManifestFault::Read {
+                which: _,
+                fault: ReadFault::Bad { .. },
+            }
+            | ManifestFault::Front(_) => "bad manifest",
+            ManifestFault::Read { which: _, fault } => read_kind(fault),
+            ManifestFault::TooLong => "batch too long",
+            ManifestFault::Folder(fault) => folder_kind(fault),
+            ManifestFault::Call(_) => "disk",
+            ManifestFault::Disk(fault) => disk_kind(*fault),
             ManifestFault::CopyExists(_) => "copy exists",
-            ManifestFault::Output(_) => "output",
+            ManifestFault::Output(reason) => reason_kind(reason, "output"),
+            ManifestFault::Memory => "memory",
         }
     }
 
     /// Returns the way on, if there is one.
-    fn way_on(&self) -> Option<WayOn> {
+    fn way_on(&self) -> Option<WayOn>
+        ensures { result ≡ way_after self.now }
+    {
         match self {
-            ManifestFault::Read(ReadFault::Bad { .. }) => Some(WayOn::RebuildManifest),
+            ManifestFault::Read {
+                which,
+                fault: ReadFault::Bad { .. },
+            } => Some(which.way_on()),
             ManifestFault::CopyExists(_) => Some(WayOn::MoveCopy),
             _ => None,
         }
@@ -151,7 +215,7 @@ impl ManifestFault {
             None => None,
         };
         let row = FaultRow {
-            fault: self.name(),
+            fault: self.kind(),
             reason: format!(in alloc; "{self}")?,
             help,
         };

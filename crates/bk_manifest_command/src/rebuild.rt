@@ -1,6 +1,10 @@
 //! A damaged manifest is made anew.
 
-ghost use Rattle.std.specs.Prelude.{◌≤◌};
+ghost use Rattle.std.specs.Prelude.{◌≡◌, ◌≤◌, min, IfOk, OnOk};
+ghost use Rattle.std.specs.Io.KnownBytes.{Appends};
+ghost use Rattle.bk_inspect.specs.Forms.{followed};
+ghost use Rattle.bk_manifest_command.specs.Damage.{damage_at};
+ghost use Rattle.bk_manifest_command.specs.Rows.{done_line, is_there};
 
 use crate::fault::ManifestFault;
 use crate::rows::{RebuiltRow, WholeRow};
@@ -20,6 +24,7 @@ use std::io::Write;
 ///
 /// - `Folder`: the directory cannot be opened to be written.
 /// - `CopyExists`: NAME.damaged has bytes already.
+/// - `TooLong`: the records have too many bytes for a batch.
 /// - `Call`, `Disk`, `Memory`, `Output`.
 pub(crate) fn rebuild<W: Write>(
     rt: &HostRuntime,
@@ -33,7 +38,7 @@ pub(crate) fn rebuild<W: Write>(
     let watch = disk.fault_watch(alloc)?;
     match replace_damaged(alloc, &mut disk, name) {
         Ok(done) => show(alloc, form, name, &done, writer),
-        Err(ManifestFault::Disk(DiskFault::Disk)) => Err(of_call(alloc, &watch)?),
+        Err(ManifestFault::Disk(DiskFault::Disk)) => Err(of_call(alloc, &watch)),
         Err(fault) => Err(fault),
     }
 }
@@ -77,7 +82,8 @@ fn replace_damaged(alloc: Global, disk: &mut DirDisk, name: &str) -> Result<Done
 
 /// Returns how many bytes are before the damage: 0 if the header is damaged.
 pub(crate) fn front_of(fault: Fault, length: usize) -> usize
-    ensures { result ≤ length }
+    ensures most { result ≤ length }
+    ensures front { result ≡ min (damage_at fault) length }
 {
     let at = match fault {
         Fault::Short(_) | Fault::BadMagic | Fault::Version(_) | Fault::BadGeneration => 0,
@@ -116,11 +122,12 @@ fn replace(alloc: Global, file: &mut FolderFile, front: &[u8]) -> Result<u64, Ma
     Ok(state.live() as u64)
 }
 
-/// Returns the call of the system that failed last.
-pub(crate) fn of_call(alloc: Global, watch: &FaultWatch) -> Result<ManifestFault, ManifestFault> {
-    match watch.last(alloc)? {
-        Some(call) => Ok(ManifestFault::Call(call)),
-        None => Ok(ManifestFault::Disk(DiskFault::Disk)),
+/// Returns the fault of the call of the system that failed last; that of the disk if it is not known,
+/// or memory for its path is refused.
+pub(crate) fn of_call(alloc: Global, watch: &FaultWatch) -> ManifestFault {
+    match watch.last(alloc) {
+        Ok(Some(call)) => ManifestFault::Call(call),
+        Ok(None) | Err(_) => ManifestFault::Disk(DiskFault::Disk),
     }
 }
 
@@ -131,7 +138,11 @@ pub(crate) fn show<W: Write>(
     name: &'static str,
     done: &Done,
     writer: &mut W,
-) -> Result<bool, ManifestFault> {
+) -> Result<bool, ManifestFault>
+    ensures there { IfOk result (λ is. is ≡ is_there done.now) }
+    ensures told { OnOk result (Appends (followed form (W.contents writer.old)) (followed form (W.contents writer.new))
+        (done_line name.now done.now)) }
+{
     match done {
         Done::Nothing => return Ok(false),
         Done::Whole => write_row(alloc, form, &WholeRow { whole: name }, writer)?,

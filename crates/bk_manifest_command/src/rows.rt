@@ -1,5 +1,9 @@
 //! Rows of the command `manifest`.
 
+ghost use Rattle.std.specs.Prelude.{◌≡◌, ◌++◌, codes, Some, None};
+ghost use Rattle.std.specs.Fmt.{decimal};
+ghost use Rattle.bk_manifest_command.specs.Rows.{attribute_kind, record_ledger, record_length, record_log, rebuilt_text, record_word};
+
 use bk_manifest::Record;
 use serde::Serialize;
 use std::fmt;
@@ -46,7 +50,13 @@ pub(crate) struct RecordRow {
 
 impl RecordRow {
     /// Returns the row of a record.
-    pub(crate) fn of(one: &Record) -> RecordRow {
+    pub(crate) fn of(one: &Record) -> RecordRow
+        ensures word { result.«record».now ≡ record_word one.now }
+        ensures log { result.log ≡ record_log one.now }
+        ensures ledger { result.ledger ≡ record_ledger one.now }
+        ensures length { result.length ≡ record_length one.now }
+        ensures kind { result.kind ≡ attribute_kind one.now }
+    {
         match one {
             Record::MadeLog(log) => RecordRow::of_log("made", *log, None),
             Record::DurableLog { log, length } => RecordRow::of_log("durable", *log, Some(*length)),
@@ -66,9 +76,15 @@ impl RecordRow {
     }
 
     /// Returns the row of a record about a log.
-    fn of_log(record: &'static str, log: u32, length: Option<u64>) -> RecordRow {
+    fn of_log(word: &'static str, log: u32, length: Option<u64>) -> RecordRow
+        ensures word { result.«record».now ≡ word.now }
+        ensures log { result.log ≡ Some log }
+        ensures ledger { result.ledger ≡ None }
+        ensures length { result.length ≡ length }
+        ensures kind { result.kind ≡ None }
+    {
         RecordRow {
-            record,
+            record: word,
             log: Some(log),
             ledger: None,
             length,
@@ -77,9 +93,15 @@ impl RecordRow {
     }
 
     /// Returns the row of a record about a ledger.
-    fn of_ledger(record: &'static str, ledger: u64) -> RecordRow {
+    fn of_ledger(word: &'static str, ledger: u64) -> RecordRow
+        ensures word { result.«record».now ≡ word.now }
+        ensures log { result.log ≡ None }
+        ensures ledger { result.ledger ≡ Some ledger }
+        ensures length { result.length ≡ None }
+        ensures kind { result.kind ≡ None }
+    {
         RecordRow {
-            record,
+            record: word,
             log: None,
             ledger: Some(ledger),
             length: None,
@@ -120,6 +142,8 @@ pub(crate) struct RebuiltRow<'a> {
 }
 
 impl Display for RebuiltRow<'_> {
+    ghost output = { λ row. Some (rebuilt_text row.rebuilt.now row.records row.unread row.kept.now) };
+
     fn fmt<W: fmt::Write>(&self, f: &mut Formatter<W>) -> fmt::Result {
         write!(
             f,
@@ -140,6 +164,8 @@ pub(crate) struct TakenRow {
 }
 
 impl Display for TakenRow {
+    ghost output = { λ row. Some (codes "taken " ++ decimal row.taken ++ codes " length " ++ decimal row.length ++ codes " durable " ++ decimal row.durable) };
+
     fn fmt<W: fmt::Write>(&self, f: &mut Formatter<W>) -> fmt::Result {
         write!(
             f,
@@ -158,6 +184,8 @@ pub(crate) struct MissingRow {
 }
 
 impl Display for MissingRow {
+    ghost output = { λ row. Some (codes "missing " ++ decimal row.missing ++ codes " durable " ++ decimal row.durable) };
+
     fn fmt<W: fmt::Write>(&self, f: &mut Formatter<W>) -> fmt::Result {
         write!(f, "missing {} durable {}", self.missing, self.durable)
     }
@@ -170,6 +198,8 @@ pub(crate) struct WholeRow {
 }
 
 impl Display for WholeRow {
+    ghost output = { λ row. Some (codes "whole " ++ row.whole.now) };
+
     fn fmt<W: fmt::Write>(&self, f: &mut Formatter<W>) -> fmt::Result {
         write!(f, "whole {}", self.whole)
     }
@@ -183,6 +213,8 @@ pub(crate) struct NoneRow<'a> {
 }
 
 impl Display for NoneRow<'_> {
+    ghost output = { λ row. Some (row.note.now ++ codes " in " ++ row.folder.now) };
+
     fn fmt<W: fmt::Write>(&self, f: &mut Formatter<W>) -> fmt::Result {
         write!(f, "{} in {}", self.note, self.folder)
     }

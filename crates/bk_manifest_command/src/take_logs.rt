@@ -40,7 +40,7 @@ pub(crate) fn take_logs<W: Write>(
     let watch = disk.fault_watch(alloc)?;
     match replace_by_logs(alloc, form, &mut disk, writer) {
         Ok(done) => show(alloc, form, LOGS, &done, writer),
-        Err(ManifestFault::Disk(DiskFault::Disk)) => Err(of_call(alloc, &watch)?),
+        Err(ManifestFault::Disk(DiskFault::Disk)) => Err(of_call(alloc, &watch)),
         Err(fault) => Err(fault),
     }
 }

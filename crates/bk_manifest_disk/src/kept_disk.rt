@@ -119,6 +119,12 @@ impl<D: LogDisk, F: ManifestFile + Send> LogDisk for KeptDisk<D, F> {
         false
     }
 
+    /// Returns how often the devices of the logs and of the manifest have failed.
+    fn count_failures(&self) -> u64 {
+        let of_logs = self.inner.count_failures();
+        of_logs.saturating_add(self.manifest.file().count_failures())
+    }
+
     fn list(&mut self, alloc: Global) -> Result<Vec<u32>, DiskFault> {
         self.inner.list(alloc)
     }

@@ -111,6 +111,10 @@ impl ManifestFile for KeptFile {
 
     ghost failures = { λ file. file.failures };
 
+    fn count_failures(&self) -> u64 {
+        self.failures
+    }
+
     fn read(&mut self, alloc: Global) -> Result<Vec<u8>, FileFault> {
         let answer = self.read_all(alloc);
         counted(&mut self.failures, answer)

@@ -108,6 +108,10 @@ impl<D: CutDisk> LogDisk for LimitedDisk<D> {
         self.inner.is_kept(log)
     }
 
+    fn count_failures(&self) -> u64 {
+        self.inner.count_failures()
+    }
+
     fn list(&mut self, alloc: Global) -> Result<Vec<u32>, DiskFault> {
         self.inner.list(alloc)
     }

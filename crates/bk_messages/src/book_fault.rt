@@ -1,5 +1,8 @@
 //! Why the manifest of the ledgers of a directory cannot be opened or written.
 
+ghost use Rattle.std.specs.Prelude.{◌≡◌};
+ghost use Rattle.bk_manifest.specs.declared.fault.ManifestError.TheVariants as manifest;
+
 use bk_ledgers::LEDGERS;
 use bk_manifest::ManifestError;
 use std::alloc::AllocError;
@@ -20,12 +23,16 @@ impl Display for BookFault {
 }
 
 impl From<ManifestError> for BookFault {
+    ghost from_gives = { λ error e. e.error ≡ error };
+
     fn from(error: ManifestError) -> BookFault {
         BookFault { error }
     }
 }
 
 impl From<AllocError> for BookFault {
+    ghost from_gives = { λ _ e. e.error ≡ manifest.Memory };
+
     fn from(_error: AllocError) -> BookFault {
         BookFault {
             error: ManifestError::Memory,

@@ -1,5 +1,11 @@
 //! Why a command on a directory ends early.
 
+ghost use Rattle.std.specs.Prelude.{◌≡◌, None, false};
+ghost use Rattle.bk_messages.specs.Ways.{way_of};
+ghost use Rattle.bk_messages.specs.declared.fault.CommandFault.TheVariants as commands;
+ghost use Rattle.bk_messages.specs.Rows.{of_row};
+ghost use Rattle.bk_messages.specs.Disks.{is_device_fault, is_failed_sweep};
+
 use crate::book_fault::BookFault;
 use crate::dead::DeadFault;
 use crate::logs_fault::LogsFault;
@@ -58,18 +64,24 @@ pub enum CommandFault {
 }
 
 impl From<FolderFault> for CommandFault {
+    ghost from_gives = { λ fault e. e ≡ commands.Folder fault };
+
     fn from(fault: FolderFault) -> CommandFault {
         CommandFault::Folder(fault)
     }
 }
 
 impl From<DiskFault> for CommandFault {
+    ghost from_gives = { λ fault e. e ≡ commands.Disk fault };
+
     fn from(fault: DiskFault) -> CommandFault {
         CommandFault::Disk(fault)
     }
 }
 
 impl From<DeadFault> for CommandFault {
+    ghost from_gives = { λ fault e. e ≡ commands.Dead fault };
+
     fn from(fault: DeadFault) -> CommandFault {
         CommandFault::Dead(fault)
     }
@@ -82,36 +94,48 @@ impl From<manifest::Fault> for CommandFault {
 }
 
 impl From<ReadFault> for CommandFault {
+    ghost from_gives = { λ fault e. e ≡ commands.Unread fault };
+
     fn from(fault: ReadFault) -> CommandFault {
         CommandFault::Unread(fault)
     }
 }
 
 impl From<BookFault> for CommandFault {
+    ghost from_gives = { λ fault e. e ≡ commands.Book fault };
+
     fn from(fault: BookFault) -> CommandFault {
         CommandFault::Book(fault)
     }
 }
 
 impl From<SweepFault> for CommandFault {
+    ghost from_gives = { λ fault e. e ≡ commands.Sweep fault };
+
     fn from(fault: SweepFault) -> CommandFault {
         CommandFault::Sweep(fault)
     }
 }
 
 impl From<AllocError> for CommandFault {
+    ghost from_gives = { λ _ e. e ≡ commands.Memory };
+
     fn from(_: AllocError) -> CommandFault {
         CommandFault::Memory
     }
 }
 
 impl From<io::Error> for CommandFault {
+    ghost from_gives = { λ fault e. e ≡ commands.Output fault };
+
     fn from(error: io::Error) -> CommandFault {
         CommandFault::Output(error)
     }
 }
 
 impl From<RowFault> for CommandFault {
+    ghost from_gives = { λ fault e. e ≡ of_row fault };
+
     fn from(fault: RowFault) -> CommandFault {
         match fault {
             RowFault::Memory => CommandFault::Memory,
@@ -121,7 +145,9 @@ impl From<RowFault> for CommandFault {
 }
 
 /// Returns the way on after a fault, if there is one.
-pub(crate) fn way_on(fault: &CommandFault) -> Option<WayOn> {
+pub(crate) fn way_on(fault: &CommandFault) -> Option<WayOn>
+    ensures { result ≡ way_of fault.now }
+{
     match fault {
         CommandFault::Sweep(SweepFault::Open(fault)) => WayOn::behind(fault),
         CommandFault::Index(_) => Some(WayOn::RebuildIndex),
@@ -151,7 +177,9 @@ pub fn reason_of(
     alloc: Global,
     fault: &CommandFault,
     watch: &Option<FaultWatch>,
-) -> Option<FileFault> {
+) -> Option<FileFault>
+    ensures { is_device_fault fault.now ≡ false → result ≡ None }
+{
     if !is_of_disk(fault) {
         return None;
     }
@@ -159,7 +187,9 @@ pub fn reason_of(
 }
 
 /// Returns whether the device failed, or the disk is odd.
-fn is_of_disk(fault: &CommandFault) -> bool {
+fn is_of_disk(fault: &CommandFault) -> bool
+    ensures { result ≡ is_device_fault fault.now }
+{
     match fault {
         CommandFault::Disk(fault) => *fault != DiskFault::Memory,
         CommandFault::Book(fault) => fault.error == ManifestError::Disk,
@@ -170,7 +200,9 @@ fn is_of_disk(fault: &CommandFault) -> bool {
 }
 
 /// Returns whether the device failed in a compaction, or the disk is odd.
-fn is_swept_disk(fault: SweepFault) -> bool {
+fn is_swept_disk(fault: SweepFault) -> bool
+    ensures { result ≡ is_failed_sweep fault }
+{
     match fault {
         SweepFault::Disk | SweepFault::Odd => true,
         SweepFault::Open(fault) => matches!(fault, OpenFault::Disk | OpenFault::Odd),

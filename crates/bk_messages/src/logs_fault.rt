@@ -1,5 +1,8 @@
 //! Why the logs of a directory cannot be opened by their manifest.
 
+ghost use Rattle.std.specs.Prelude.{◌≡◌};
+ghost use Rattle.bk_messages.specs.Disks.{are_failed_logs};
+
 use bk_disk::DiskFault;
 use bk_manifest::ManifestError;
 use bk_manifest_disk::{Fault, LOGS};
@@ -16,7 +19,9 @@ pub struct LogsFault {
 
 impl LogsFault {
     /// Returns whether a call of the system is the reason.
-    pub fn is_of_disk(self) -> bool {
+    pub fn is_of_disk(self) -> bool
+        ensures { result ≡ are_failed_logs self.fault }
+    {
         matches!(
             self.fault,
             Fault::Disk(DiskFault::Disk) | Fault::Manifest(ManifestError::Disk)
@@ -35,6 +40,8 @@ impl Display for LogsFault {
 }
 
 impl From<Fault> for LogsFault {
+    ghost from_gives = { λ fault e. e.fault ≡ fault };
+
     fn from(fault: Fault) -> LogsFault {
         LogsFault { fault }
     }

@@ -1,15 +1,15 @@
 //! Reports of why a command on a directory ends early.
 
-use crate::dead::{DeadFault, LineEnd};
+ghost use Rattle.std.specs.Prelude.{◌≡◌};
+ghost use Rattle.bk_messages.specs.Quiet.{IsQuiet};
+
+use crate::dead::DeadFault;
 use crate::fault::{CommandFault, way_on};
+use crate::object::object_of;
 use crate::rows::{RowFault, write_object};
-use crate::way_on::WayOn;
-use bk_disk::{FileFault, FolderFault};
+use bk_disk::FileFault;
 use bk_inspect::Form;
-use bk_offline_gc::SweepFault;
-use bk_store::OpenFault;
-use serde::Serialize;
-use std::alloc::{AllocError, Global};
+use std::alloc::Global;
 use std::io;
 use std::io::Write;
 
@@ -21,7 +21,9 @@ pub fn end_early<E: Write>(
     fault: &CommandFault,
     call: &Option<FileFault>,
     errors: &mut E,
-) {
+)
+    ensures quiet { IsQuiet fault.now → E.contents errors.new ≡ E.contents errors.old }
+{
     match fault {
         CommandFault::Reported => {}
         CommandFault::Output(error) if error.kind() == io::ErrorKind::BrokenPipe => {}
@@ -32,40 +34,6 @@ pub fn end_early<E: Write>(
 /// Reports why a file does not name deleted ledgers.
 pub fn tell_dead<E: Write>(alloc: Global, form: Form, fault: DeadFault, errors: &mut E) {
     tell(alloc, form, &CommandFault::Dead(fault), &None, errors);
-}
-
-/// The object of a fault: its words, what it is about, and the rest of its text.
-#[derive(Drop, Serialize)]
-struct FaultRow<'a> {
-    fault: &'a str,
-    #[serde(skip_serializing_if = "Option::is_none")]
-    log: Option<u32>,
-    #[serde(skip_serializing_if = "Option::is_none")]
-    folder: Option<&'a str>,
-    #[serde(skip_serializing_if = "Option::is_none")]
-    file: Option<&'a str>,
-    #[serde(skip_serializing_if = "Option::is_none")]
-    line: Option<u64>,
-    #[serde(skip_serializing_if = "Option::is_none")]
-    operation: Option<String>,
-    #[serde(skip_serializing_if = "Option::is_none")]
-    reason: Option<String>,
-    #[serde(skip_serializing_if = "Option::is_none")]
-    help: Option<String>,
-}
-
-/// Returns the object of a fault that has words only.
-fn named(fault: &str) -> FaultRow<'_> {
-    FaultRow {
-        fault,
-        log: None,
-        folder: None,
-        file: None,
-        line: None,
-        operation: None,
-        reason: None,
-        help: None,
-    }
 }
 
 /// Reports why a command ends early, with the call of the system that is the reason, if it is
@@ -107,117 +75,5 @@ fn tell_object<E: Write>(
     errors: &mut E,
 ) -> Result<(), RowFault> {
     let text = fault.to_string(alloc)?;
-    match call {
-        Some(call) => write_object(alloc, &call_row(alloc, &text, call)?, errors),
-        None => write_object(alloc, &row_of(alloc, fault, &text)?, errors),
-    }
-}
-
-/// Returns the object of a fault with this text, of which a failed call of the system is the reason.
-fn call_row<'f>(
-    alloc: Global,
-    text: &'f str,
-    call: &'f FileFault,
-) -> Result<FaultRow<'f>, AllocError> {
-    Ok(FaultRow {
-        file: Some(call.path()),
-        operation: Some(call.operation().to_string(alloc)?),
-        reason: Some(call.reason().to_string(alloc)?),
-        ..named(text)
-    })
-}
-
-/// Returns the object of a fault with this text.
-fn row_of<'f>(
-    alloc: Global,
-    fault: &'f CommandFault,
-    text: &'f str,
-) -> Result<FaultRow<'f>, AllocError> {
-    match fault {
-        CommandFault::Folder(fault) => folder_row(alloc, fault),
-        CommandFault::Dead(fault) => dead_row(alloc, fault),
-        CommandFault::Name { path, reason } => Ok(FaultRow {
-            file: Some(path),
-            reason: Some(reason.to_string(alloc)?),
-            ..named("disk")
-        }),
-        CommandFault::Index(file) => Ok(FaultRow {
-            file: Some(file),
-            help: Some(WayOn::RebuildIndex.to_string(alloc)?),
-            ..named("bookie index")
-        }),
-        CommandFault::Sweep(SweepFault::Open(OpenFault::Log { id, cause })) => Ok(FaultRow {
-            log: Some(*id),
-            reason: Some(cause.to_string(alloc)?),
-            help: match way_on(fault) {
-                Some(way_on) => Some(way_on.to_string(alloc)?),
-                None => None,
-            },
-            ..named("bad log")
-        }),
-        CommandFault::Sweep(SweepFault::Open(OpenFault::TooLong(log))) => Ok(FaultRow {
-            log: Some(*log),
-            help: Some(WayOn::TooLong.to_string(alloc)?),
-            ..named("log too long")
-        }),
-        CommandFault::Book(_) | CommandFault::Logs(_) | CommandFault::Unread(_) => Ok(FaultRow {
-            reason: Some(String::from_str(alloc, text)?),
-            help: match way_on(fault) {
-                Some(way_on) => Some(way_on.to_string(alloc)?),
-                None => None,
-            },
-            ..named("manifest")
-        }),
-        CommandFault::Disk(_)
-        | CommandFault::Sweep(_)
-        | CommandFault::Reported
-        | CommandFault::Memory
-        | CommandFault::Output(_) => Ok(named(text)),
-    }
-}
-
-/// Returns the object of a directory that cannot be opened, or that another program writes to.
-fn folder_row(alloc: Global, fault: &FolderFault) -> Result<FaultRow<'_>, AllocError> {
-    Ok(match fault {
-        FolderFault::InUse { .. } => FaultRow {
-            reason: Some(fault.to_string(alloc)?),
-            ..named("in use")
-        },
-        FolderFault::Refused { path, reason } => FaultRow {
-            folder: Some(path),
-            reason: Some(reason.to_string(alloc)?),
-            ..named("disk")
-        },
-        FolderFault::Memory => named("memory"),
-    })
-}
-
-/// Returns the object of a file that does not name deleted ledgers.
-fn dead_row(alloc: Global, fault: &DeadFault) -> Result<FaultRow<'_>, AllocError> {
-    Ok(match fault {
-        DeadFault::Unread { path, reason } => FaultRow {
-            file: Some(path),
-            reason: Some(reason.to_string(alloc)?),
-            ..named("unread")
-        },
-        DeadFault::Line { path, number, end } => FaultRow {
-            file: Some(path),
-            line: Some(*number),
-            reason: match end {
-                LineEnd::Plain => None,
-                LineEnd::Return => Some(LineEnd::Return.to_string(alloc)?),
-            },
-            ..named("bad line")
-        },
-        DeadFault::NoneLive => FaultRow {
-            help: Some(WayOn::SayNoneLive.to_string(alloc)?),
-            ..named("no live ledger is named")
-        },
-        DeadFault::Logs => named("ledgers of the logs unread"),
-        DeadFault::Manifest(fault) => FaultRow {
-            reason: Some(fault.to_string(alloc)?),
-            ..named("manifest")
-        },
-        DeadFault::Memory => named("memory"),
-    })
+    write_object(alloc, &object_of(alloc, fault, call, &text)?, errors)
 }

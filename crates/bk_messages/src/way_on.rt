@@ -1,5 +1,8 @@
 //! What an operator may do if a command refuses a directory.
 
+ghost use Rattle.std.specs.Prelude.{◌≡◌, Some};
+ghost use Rattle.bk_messages.specs.Ways.{way_behind, way_behind_book, way_behind_logs, way_text};
+
 use crate::logs_fault::LogsFault;
 use bk_manifest::ManifestError;
 use bk_manifest_disk::Fault;
@@ -32,7 +35,9 @@ pub enum WayOn {
 
 impl WayOn {
     /// Returns the way on after a refused opening; `None` if no log is to blame.
-    pub fn behind(fault: &OpenFault) -> Option<WayOn> {
+    pub fn behind(fault: &OpenFault) -> Option<WayOn>
+        ensures { result ≡ way_behind fault.now }
+    {
         match fault {
             OpenFault::Log {
                 id: _,
@@ -52,7 +57,9 @@ impl WayOn {
     }
 
     /// Returns the way on if logs cannot be opened by their manifest.
-    pub fn behind_logs(fault: LogsFault) -> Option<WayOn> {
+    pub fn behind_logs(fault: LogsFault) -> Option<WayOn>
+        ensures { result ≡ way_behind_logs fault.fault }
+    {
         match fault.fault {
             Fault::Lack(_) => Some(WayOn::TakeLogs),
             Fault::Manifest(ManifestError::Fault(_)) => Some(WayOn::RebuildLogs),
@@ -61,7 +68,9 @@ impl WayOn {
     }
 
     /// Returns the way on if a manifest cannot be opened.
-    pub fn behind_book(error: ManifestError) -> Option<WayOn> {
+    pub fn behind_book(error: ManifestError) -> Option<WayOn>
+        ensures { result ≡ way_behind_book error }
+    {
         match error {
             ManifestError::Fault(_) => Some(WayOn::RebuildManifest),
             ManifestError::Memory | ManifestError::Disk | ManifestError::TooLong => None,
@@ -70,6 +79,8 @@ impl WayOn {
 }
 
 impl Display for WayOn {
+    ghost output = { λ way. Some (way_text way) };
+
     fn fmt<W: fmt::Write>(&self, f: &mut Formatter<W>) -> fmt::Result {
         match self {
             WayOn::Cut => f.write_str(

@@ -5,6 +5,7 @@ use bk_disk::{DiskFault, LogDisk, MemDisk};
 use bk_store::{AddFault, Added, Settings, Store, SwapAnswer};
 use std::alloc::{AllocError, Global};
 
+mod counts;
 mod pages;
 mod refused;
 

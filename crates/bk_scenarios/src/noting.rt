@@ -95,6 +95,10 @@ impl<D: LogDisk> LogDisk for NotingDisk<D> {
         self.inner.is_kept(log)
     }
 
+    fn count_failures(&self) -> u64 {
+        self.inner.count_failures()
+    }
+
     fn list(&mut self, alloc: Global) -> Result<Vec<u32>, DiskFault> {
         self.notes.note(format!(in alloc; "list"));
         self.inner.list(alloc)

@@ -18,6 +18,8 @@ use Rattle.bk_serve_core.specs.declared.refusal.Refusal.TheVariants as f
 use Rattle.bk_serve.specs.Refusals.{of_take, of_fetch}
 use Rattle.bk_serve.specs.declared.reading.Found.{Found}
 use Rattle.bk_serve.specs.declared.reading.Found.TheVariants as found
+use Rattle.bk_serve.specs.declared.reading.ReadJob.{ReadJob}
+use Rattle.bk_serve.specs.declared.reading.ReadJob.TheVariants as job
 
 abbrev pub key_of : ℕ → ℕ → EntryKey
 key_of ledger entry_id = record { ledger = ledger; entry = entry_id }
@@ -48,6 +50,13 @@ Gives bytes honest key (Ok (Cached payload)) reply = GivesPayload key payload.va
 Gives bytes honest key (Ok NotHeld) reply = reply ≡ done not_held
 Gives bytes honest key (Ok (Leased lease place)) reply = GivesLeased bytes honest lease.view place key reply
 Gives bytes honest key (Err fault) reply = reply ≡ refused (of_take fault)
+
+-- The reply is made of what a read took from the store.
+abbrev pub JobGives : {V : Type 0} → (V → List ℕ) → (V → Bool) → ReadJob V → Told → Type 0
+JobGives bytes honest job.NotHeld reply = reply ≡ done not_held
+JobGives bytes honest (job.Refused refusal) reply = reply ≡ refused refusal
+JobGives bytes honest (job.Cached key payload) reply = GivesPayload key payload.value.items reply
+JobGives bytes honest (job.Leased alloc lease place key) reply = GivesLeased bytes honest lease.view place key reply
 
 -- A take of the key is answered.
 pub record IsRead {V : Type 0} (bytes : V → List ℕ) (honest sound : V → Bool) (key : EntryKey) (s : State) (reply : Told) (t : State) : Type 0 where

@@ -26,6 +26,8 @@ Options:
       --log-limit BYTES      Seal a log before an entry that would make it longer than this: 2048 to
                              4000000000 [1073741824]
       --no-hints             Neither use nor write hints
+      --readers N            Let up to N threads share reads that were sent ahead, 1 to 8: for a
+                             directory that does not fit in memory [1]
   -h, --help                 Print help
   -V, --version              Print version
 

@@ -1,11 +1,13 @@
 //! What a session serves: a store, and a manifest of what is durable of its ledgers.
 
-ghost use Rattle.std.specs.Prelude.{◌≡◌, ◌++◌, OnOk};
+ghost use Rattle.std.specs.Prelude.{◌≡◌, ◌++◌, true, OnOk, IfSome, IfNone};
 ghost use Rattle.bk_serve_core.specs.Fields.{frame_of};
 ghost use Rattle.bk_serve_core.specs.Requests.{ask};
 ghost use Rattle.bk_serve_core.specs.Replies.{Told, refused, told_bytes};
 ghost use Rattle.bk_serve_core.specs.declared.refusal.Refusal.TheVariants as f;
+ghost use Rattle.bk_serve_dispatch.specs.Runs.{is_read};
 ghost use Rattle.bk_serve.specs.Answers.{Answers};
+ghost use Rattle.bk_serve.specs.Reads.{JobGives};
 
 use crate::adding::add;
 use crate::attributes::{attribute, set_attribute};
@@ -13,14 +15,15 @@ use crate::background::Background;
 use crate::compacting::compact;
 use crate::figures::figures;
 use crate::ledgers::{delete, fence, is_fenced};
-use crate::listing::{entries, last_entry, ledgers, read_last};
-use crate::reading::{holds, read, read_back};
+use crate::listing::{begin_read_last, entries, last_entry, ledgers};
+use crate::reading::{ReadJob, begin_read, begin_read_back, holds, run_read};
 use crate::sealing::{checkpoint, close, flush, seal};
-use bk_disk::{DirDisk, LogDisk};
+use bk_disk::{DirDisk, DirView, LogDisk};
 use bk_hint_disk::HintedDisk;
 use bk_hint_folder::FolderHints;
+use bk_hint_view::HintedView;
 use bk_manifest::{Manifest, ManifestFile};
-use bk_manifest_disk::{KeptDisk, KeptFile, LimitedDisk};
+use bk_manifest_disk::{KeptDisk, KeptFile, LimitedDisk, LimitedView};
 use bk_serve_core::{EncodeError, Refusal, Reply, Request};
 use bk_store::{AddKind, Store};
 use std::alloc::Global;
@@ -42,6 +45,35 @@ pub(crate) struct Host<D: LogDisk, F: ManifestFile> {
 
 /// The disk of the directory, with the manifest of its logs and their hints.
 pub(crate) type ServedDisk = HintedDisk<KeptDisk<LimitedDisk<DirDisk>, KeptFile>, FolderHints>;
+
+/// A view of one of its logs.
+pub(crate) type ServedView = HintedView<LimitedView<DirView>>;
+
+/// Begins a read. Returns `None`, and does nothing, if the request is none.
+pub(crate) fn begin<D: LogDisk, F: ManifestFile>(
+    host: &mut Host<D, F>,
+    request: &Request<'_>,
+) -> Option<ReadJob<D::View>>
+    ensures read { IfSome result (λ job. is_read (ask request.now) ≡ true) }
+    ensures some { IfSome result (λ job. (t : Told) → JobGives D.View.bytes D.View.honest job t
+        → Answers D.View.bytes D.View.honest D.View.sound host.old.store host.old.notes (ask request.now) t host.new.store host.new.notes) }
+    ensures none { IfNone result (host.new ≡ host.old) }
+{
+    let alloc = host.alloc;
+    match *request {
+        Request::Read { ledger, entry } => {
+            Some(begin_read(alloc, &mut host.store, ledger, entry))
+        }
+        Request::ReadLast { ledger } => Some(begin_read_last(alloc, &mut host.store, ledger)),
+        Request::ReadBack {
+            number,
+            ledger,
+            entry,
+            digest,
+        } => Some(begin_read_back(alloc, &mut host.store, number, ledger, entry, &digest)),
+        _ => None,
+    }
+}
 
 /// Carries out a request and appends its reply.
 ///
@@ -94,14 +126,22 @@ pub(crate) fn answer<D: LogDisk, F: ManifestFile>(
             content,
         )
         .encode(id, out),
-        Request::Read { ledger, entry } => read(alloc, store, ledger, entry, id, out),
-        Request::ReadLast { ledger } => read_last(alloc, store, ledger, id, out),
+        Request::Read { ledger, entry } => run_read(
+            begin_read(alloc, store, ledger, entry),
+            id,
+            out,
+        ),
+        Request::ReadLast { ledger } => run_read(begin_read_last(alloc, store, ledger), id, out),
         Request::ReadBack {
             number,
             ledger,
             entry,
             digest,
-        } => read_back(alloc, store, number, ledger, entry, &digest, id, out),
+        } => run_read(
+            begin_read_back(alloc, store, number, ledger, entry, &digest),
+            id,
+            out,
+        ),
         Request::LastEntry { ledger } => last_entry(store, ledger).encode(id, out),
         Request::Entries { ledger, from, most } => {
             entries(alloc, store, ledger, from, most, id, out)

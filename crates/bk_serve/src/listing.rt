@@ -3,10 +3,11 @@
 ghost use Rattle.std.specs.Prelude.{◌≡◌, ◌++◌, IfOk, OnOk};
 ghost use Rattle.bk_serve_core.specs.Fields.{frame_of};
 ghost use Rattle.bk_serve_core.specs.Replies.{Told, told, told_bytes};
+ghost use Rattle.bk_serve.specs.Reads.{JobGives};
 ghost use Rattle.bk_serve.specs.Listings.{EntriesAnswers, GivesPage, LastEntryAnswers, LedgersAnswers, ReadLastAnswers, bytes_of_ids, most_of_page};
 
 use crate::ledgers::is_negative;
-use crate::reading::read;
+use crate::reading::{ReadJob, begin_read};
 use bk_disk::LogDisk;
 use bk_serve_core::{Done, EncodeError, Refusal, Reply};
 use bk_store::Store;
@@ -59,25 +60,23 @@ pub(crate) fn last_entry<D: LogDisk>(store: &Store<D>, ledger: u64) -> Reply<'st
     }
 }
 
-/// Reads the last entry of a ledger, and appends the reply.
-pub(crate) fn read_last<D: LogDisk>(
+/// Begins to read the last entry of a ledger.
+pub(crate) fn begin_read_last<D: LogDisk>(
     alloc: Global,
     store: &mut Store<D>,
     ledger: u64,
-    id: u64,
-    out: &mut Vec<u8>,
-) -> Result<(), EncodeError>
-    ensures { (t : Told) × ReadLastAnswers D.View.bytes D.View.honest D.View.sound ledger store.old t store.new × OnOk result (out.new.items ≡ out.old.items ++ frame_of id (told_bytes t)) }
+) -> ReadJob<D::View>
+    ensures { (t : Told) → JobGives D.View.bytes D.View.honest result t → ReadLastAnswers D.View.bytes D.View.honest D.View.sound ledger store.old t store.new }
 {
     if is_negative(ledger) {
-        return Reply::Refused(Refusal::Negative).encode(id, out);
+        return ReadJob::Refused(Refusal::Negative);
     }
     if store.is_dead(ledger) {
-        return Reply::Refused(Refusal::Deleted).encode(id, out);
+        return ReadJob::Refused(Refusal::Deleted);
     }
     match store.last_entry(ledger) {
-        Some(entry) => read(alloc, store, ledger, entry, id, out),
-        None => Reply::Done(Done::NotHeld).encode(id, out),
+        Some(entry) => begin_read(alloc, store, ledger, entry),
+        None => ReadJob::NotHeld,
     }
 }
 

@@ -7,9 +7,9 @@ use crate::options::Options;
 use bk_disk::{DiskFault, FolderFault, LogDisk};
 use bk_hint_disk::{HintedDisk, Unused};
 use bk_hint_folder::FolderHints;
-use bk_ledgers::{LEDGERS, Torn, ledgers_of, open_ledgers};
+use bk_ledgers::{LEDGERS, Opened, Torn, ledgers_of, open_ledgers};
 use bk_manifest::{Manifest, ManifestError, ManifestFile};
-use bk_manifest_disk::{Fault, KeptFile, LOGS, Lack, Report, open_logs};
+use bk_manifest_disk::{Fault, FolderLogs, KeptFile, LOGS, Lack, Report, open_logs};
 use bk_serve_core::Refusal;
 use bk_store::{FenceFault, Settings, Store};
 use std::alloc::{AllocError, AllocFailed, Global};
@@ -187,6 +187,47 @@ pub(crate) struct Opening {
     pub(crate) unused: Vec<Unused>,
 }
 
+/// A host, and the hints that were there and not used, in the order of their logs.
+#[derive(Drop)]
+struct Found {
+    host: Host<ServedDisk, KeptFile>,
+    unused: Vec<Unused>,
+}
+
+/// Opens a store on a disk with hints, and lists the hints that are not used.
+fn open_hinted(
+    alloc: Global,
+    disk: ServedDisk,
+    notes: Manifest<KeptFile>,
+    options: Options,
+) -> Result<Found, OpenFault> {
+    let watch = disk.unused_watch(alloc)?;
+    let host = open_host(alloc, disk, notes, options)?;
+    Ok(Found {
+        host,
+        unused: watch.list(alloc)?,
+    })
+}
+
+/// Opens the store of a directory, with what its manifests and the folder of its hints say.
+fn open_store(
+    alloc: Global,
+    ledgers: Opened,
+    logs: FolderLogs,
+    hints: FolderHints,
+    options: Options,
+) -> Result<Opening, OpenFault> {
+    let torn = torn_files(alloc, ledgers.torn, logs.torn)?;
+    let disk = HintedDisk::new(alloc, logs.disk, hints);
+    let found = open_hinted(alloc, disk, ledgers.manifest, options)?;
+    Ok(Opening {
+        host: found.host,
+        torn,
+        reports: logs.reports,
+        unused: found.unused,
+    })
+}
+
 /// Opens the directory at a path.
 pub(crate) fn open(rt: &HostRuntime, path: &str, options: Options) -> Result<Opening, OpenFault> {
     let alloc = rt.alloc();
@@ -194,15 +235,7 @@ pub(crate) fn open(rt: &HostRuntime, path: &str, options: Options) -> Result<Ope
     let ledgers = open_ledgers(alloc, &mut disk)?;
     let logs = open_logs(alloc, disk)?;
     let hints = FolderHints::new(rt, path, options.hints)?;
-    let disk = HintedDisk::new(alloc, logs.disk, hints);
-    let watch = disk.unused_watch(alloc)?;
-    let host = open_host(alloc, disk, ledgers.manifest, options)?;
-    Ok(Opening {
-        host,
-        torn: torn_files(alloc, ledgers.torn, logs.torn)?,
-        reports: logs.reports,
-        unused: watch.list(alloc)?,
-    })
+    open_store(alloc, ledgers, logs, hints, options)
 }
 
 /// Returns the manifests that ended torn.

@@ -11,7 +11,12 @@ pub(crate) struct Options {
     pub log_limit: u32,
     /// Whether hints are used and written.
     pub hints: bool,
+    /// Number of threads that may share the reads that were sent ahead, from 1 on.
+    pub readers: u32,
 }
+
+/// Greatest number of threads that may share reads.
+const READERS: u32 = 8;
 
 impl Options {
     /// The options without words.
@@ -19,6 +24,7 @@ impl Options {
         compact: None,
         log_limit: 1_073_741_824,
         hints: true,
+        readers: 1,
     };
 
     /// Sets an option, which may have a value. Returns how many words it is, `None` if there is no such
@@ -36,6 +42,10 @@ impl Options {
             "--no-hints" => {
                 self.hints = false;
                 Some(1)
+            }
+            "--readers" => {
+                self.readers = readers_of(value?)?;
+                Some(2)
             }
             _ => None,
         }
@@ -63,6 +73,14 @@ fn thousandths_of(word: &str) -> Option<u32> {
 fn log_limit_of(word: &str) -> Option<u32> {
     match number_of(word)? {
         limit @ 2048..=4_000_000_000 => Some(limit),
+        _ => None,
+    }
+}
+
+/// Returns a number of threads that may share reads, in decimal digits.
+fn readers_of(word: &str) -> Option<u32> {
+    match number_of(word)? {
+        readers @ 1..=READERS => Some(readers),
         _ => None,
     }
 }

@@ -72,6 +72,10 @@ impl<R: Wait + Drop> Read for Pumped<R> {
 
 impl<R: Wait + Drop> Source for Pumped<R> {
     fn is_waiting(&self) -> bool {
+        self.is_there()
+    }
+
+    fn is_there(&self) -> bool {
         self.at < self.piece.len() || !self.pieces.is_empty()
     }
 }

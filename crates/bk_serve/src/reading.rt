@@ -4,16 +4,19 @@ ghost use Rattle.std.specs.Prelude.{◌≡◌, ◌++◌, ◌↔◌, IsTrue, OnOk
 ghost use Rattle.bk_store.specs.declared.mark.Mark.TheVariants.{Add};
 ghost use Rattle.bk_serve_core.specs.Fields.{frame_of};
 ghost use Rattle.bk_serve_core.specs.Replies.{Told, told, told_bytes};
-ghost use Rattle.bk_serve.specs.Reads.{HoldsAnswers, ReadAnswers, ReadBackAnswers, GivesLeased, GivesPayload, IsRead, LooksUp};
+ghost use Rattle.bk_serve.specs.Reads.{HoldsAnswers, JobGives, ReadAnswers, ReadBackAnswers, GivesLeased, GivesPayload, IsRead, LooksUp};
 
+use crate::host::ServedView;
 use crate::refusals::{of_fetch, of_take};
 use bk_disk::{LogDisk, LogView};
 use bk_lease::Lease;
 use bk_log::fetch;
 use bk_record::{Key, Location};
 use bk_serve_core::{Done, EncodeError, Refusal, Reply};
+use bk_serve_dispatch::Job;
 use bk_store::{Mark, Store, Taken};
 use std::alloc::Global;
+use std::sync::Arc;
 
 /// Number of bytes of the ids of an entry.
 const IDS: usize = 16;
@@ -50,43 +53,97 @@ fn give_leased<V: LogView>(
     }
 }
 
-/// Takes an entry from the store, and appends the reply. The lease of the take ends here.
-fn give<D: LogDisk>(
-    alloc: Global,
-    store: &mut Store<D>,
-    key: Key,
+/// What the reply to a read is made of. The lease ends when it is carried out.
+#[derive(Drop)]
+pub(crate) enum ReadJob<V: Drop> {
+    /// The store has no such entry.
+    NotHeld,
+    /// The read is refused.
+    Refused(Refusal),
+    /// The entry, from a cache.
+    Cached {
+        key: Key,
+        payload: Arc<Vec<u8>>,
+    },
+    /// The entry is in the log of this lease.
+    Leased {
+        alloc: Global,
+        lease: Lease<V>,
+        location: Location,
+        key: Key,
+    },
+}
+
+/// Carries out a read, and appends the reply. Its lease ends here.
+pub(crate) fn run_read<V: LogView>(
+    job: ReadJob<V>,
     id: u64,
     out: &mut Vec<u8>,
 ) -> Result<(), EncodeError>
-    ensures { (t : Told) × IsRead D.View.bytes D.View.honest D.View.sound key store.old t store.new × OnOk result (out.new.items ≡ out.old.items ++ frame_of id (told_bytes t)) }
+    ensures { (t : Told) × JobGives V.bytes V.honest job t × OnOk result (out.new.items ≡ out.old.items ++ frame_of id (told_bytes t)) }
 {
-    match store.take(key) {
-        Ok(Taken::Deleted) => Reply::Refused(Refusal::Deleted).encode(id, out),
-        Ok(Taken::NotHeld) => Reply::Done(Done::NotHeld).encode(id, out),
-        Ok(Taken::Cached(payload)) => give_payload(key, &payload, id, out),
-        Ok(Taken::Leased(lease, location)) => {
+    match job {
+        ReadJob::NotHeld => Reply::Done(Done::NotHeld).encode(id, out),
+        ReadJob::Refused(refusal) => Reply::Refused(refusal).encode(id, out),
+        ReadJob::Cached { key, payload } => give_payload(key, &payload, id, out),
+        ReadJob::Leased {
+            alloc,
+            lease,
+            location,
+            key,
+        } => {
             let given = give_leased(alloc, &lease, location, key, id, out);
             lease.release().end();
             given
         }
-        Err(fault) => Reply::Refused(of_take(fault)).encode(id, out),
     }
 }
 
-/// Reads an entry, and appends the reply.
-pub(crate) fn read<D: LogDisk>(
+impl Job for ReadJob<ServedView> {
+    ghost use Rattle.std.specs.Prelude.{◌&&◌};
+    ghost use Rattle.bk_hint_view.specs.Showing.{HintedBytes, has_true_table};
+
+    ghost gives = { λ job t. JobGives {V = HintedBytes} (λ v. v.bytes) (λ v. v.inner && has_true_table v.table v.bytes) job t };
+
+    fn may_wait(&self) -> bool {
+        matches!(self, ReadJob::Leased { .. })
+    }
+
+    fn run(self, id: u64, out: &mut Vec<u8>) -> Result<(), EncodeError> {
+        run_read(self, id, out)
+    }
+}
+
+/// Takes an entry from the store.
+fn take<D: LogDisk>(alloc: Global, store: &mut Store<D>, key: Key) -> ReadJob<D::View>
+    ensures { (t : Told) → JobGives D.View.bytes D.View.honest result t → IsRead D.View.bytes D.View.honest D.View.sound key store.old t store.new }
+{
+    match store.take(key) {
+        Ok(Taken::Deleted) => ReadJob::Refused(Refusal::Deleted),
+        Ok(Taken::NotHeld) => ReadJob::NotHeld,
+        Ok(Taken::Cached(payload)) => ReadJob::Cached { key, payload },
+        Ok(Taken::Leased(lease, location)) => ReadJob::Leased {
+            alloc,
+            lease,
+            location,
+            key,
+        },
+        Err(fault) => ReadJob::Refused(of_take(fault)),
+    }
+}
+
+/// Begins to read an entry.
+pub(crate) fn begin_read<D: LogDisk>(
     alloc: Global,
     store: &mut Store<D>,
     ledger: u64,
     entry: u64,
-    id: u64,
-    out: &mut Vec<u8>,
-) -> Result<(), EncodeError>
-    ensures { (t : Told) × ReadAnswers D.View.bytes D.View.honest D.View.sound ledger entry store.old t store.new × OnOk result (out.new.items ≡ out.old.items ++ frame_of id (told_bytes t)) }
+) -> ReadJob<D::View>
+    ensures { (t : Told) → JobGives D.View.bytes D.View.honest result t → ReadAnswers D.View.bytes D.View.honest D.View.sound ledger entry store.old t store.new }
 {
     match Key::new(ledger, entry) {
-        Some(key) => give(alloc, store, key, id, out),
-        None => Reply::Refused(Refusal::Negative).encode(id, out),
+        Some(key) => take(alloc, store, key),
+        None => ReadJob::Refused(Refusal::Negative),
     }
 }
 
@@ -127,44 +184,42 @@ fn look_up(trail: &[Mark], number: u64, key: Key, digest: &[u8; 32]) -> Found
     }
 }
 
-/// Reads the entry of a receipt if the trail has its mark, and appends the reply.
-fn read_receipt<D: LogDisk>(
+/// Begins to read the entry of a receipt if the trail has its mark.
+fn begin_receipt<D: LogDisk>(
     alloc: Global,
     store: &mut Store<D>,
     number: u64,
     key: Key,
     digest: &[u8; 32],
-    id: u64,
-    out: &mut Vec<u8>,
-) -> Result<(), EncodeError>
-    ensures { (t : Told) × ReadBackAnswers D.View.bytes D.View.honest D.View.sound number key.ledger key.entry digest.now store.old t store.new × OnOk result (out.new.items ≡ out.old.items ++ frame_of id (told_bytes t)) }
+) -> ReadJob<D::View>
+    ensures { (t : Told) → JobGives D.View.bytes D.View.honest result t
+        → ReadBackAnswers D.View.bytes D.View.honest D.View.sound number key.ledger key.entry digest.now store.old t store.new }
 {
     match look_up(store.trail(), number, key, digest) {
-        Found::Stands => give(alloc, store, key, id, out),
+        Found::Stands => take(alloc, store, key),
         Found::Missing => {
             let front = store.front();
-            Reply::Refused(Refusal::Missing { front }).encode(id, out)
+            ReadJob::Refused(Refusal::Missing { front })
         }
-        Found::Differs(_) => Reply::Refused(Refusal::Differs).encode(id, out),
+        Found::Differs(_) => ReadJob::Refused(Refusal::Differs),
     }
 }
 
-/// Reads the entry of a receipt if the trail has its mark, and appends the reply.
-pub(crate) fn read_back<D: LogDisk>(
+/// Begins to read the entry of a receipt if the trail has its mark.
+pub(crate) fn begin_read_back<D: LogDisk>(
     alloc: Global,
     store: &mut Store<D>,
     number: u64,
     ledger: u64,
     entry: u64,
     digest: &[u8; 32],
-    id: u64,
-    out: &mut Vec<u8>,
-) -> Result<(), EncodeError>
-    ensures { (t : Told) × ReadBackAnswers D.View.bytes D.View.honest D.View.sound number ledger entry digest.now store.old t store.new × OnOk result (out.new.items ≡ out.old.items ++ frame_of id (told_bytes t)) }
+) -> ReadJob<D::View>
+    ensures { (t : Told) → JobGives D.View.bytes D.View.honest result t
+        → ReadBackAnswers D.View.bytes D.View.honest D.View.sound number ledger entry digest.now store.old t store.new }
 {
     match Key::new(ledger, entry) {
-        Some(key) => read_receipt(alloc, store, number, key, digest, id, out),
-        None => Reply::Refused(Refusal::Negative).encode(id, out),
+        Some(key) => begin_receipt(alloc, store, number, key, digest),
+        None => ReadJob::Refused(Refusal::Negative),
     }
 }
 

@@ -3,7 +3,8 @@
 ghost use Rattle.std.specs.Prelude.{◌≡◌, ◌++◌, OnOk};
 ghost use Rattle.bk_serve.specs.Answers.{Answers};
 
-use crate::host::{Host, ServedDisk, answer};
+use crate::host::{Host, ServedDisk, ServedView, answer, begin};
+use crate::reading::ReadJob;
 use bk_disk::LogDisk;
 use bk_manifest::ManifestFile;
 use bk_manifest_disk::KeptFile;
@@ -82,6 +83,8 @@ impl<R: Wait + Drop> Served<R> {
 }
 
 impl<R: Wait + Drop> Service for Served<R> {
+    type Job = ReadJob<ServedView>;
+
     ghost use Rattle.std.specs.Prelude.{◌&&◌};
     ghost use Rattle.bk_hint_view.specs.Showing.{HintedBytes, has_true_table};
     ghost use Rattle.bk_serve.specs.Flushes.{MayWork};
@@ -105,6 +108,11 @@ impl<R: Wait + Drop> Service for Served<R> {
         }
         Self::look(&mut self.watch, &self.host);
         answered
+    }
+
+    /// Begins a read, which seals no log, and after which no round of the compaction begins.
+    fn begin(&mut self, request: &Request<'_>) -> Option<ReadJob<ServedView>> {
+        begin(&mut self.host, request)
     }
 
     fn is_due(&self) -> bool {

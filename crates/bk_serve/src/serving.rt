@@ -11,7 +11,7 @@ use bk_hint_disk::Unused;
 use bk_manifest_disk::KeptFile;
 use bk_serve_core::{Done, LONGEST_FRAME, Reply, VERSION};
 use bk_serve_dispatch::{
-    Buffers, End, Input, Service, Source, finish, greet, serve_requests, tell_end,
+    Buffers, End, Input, Readers, Service, Source, finish, greet, serve_requests, tell_end,
 };
 use crossbeam_channel::Receiver;
 use std::io::{BufReader, BufWriter, Read, Stderr, Write};
@@ -37,14 +37,14 @@ const WELCOME: Reply<'static> = Reply::Done(Done::Welcome {
 /// order and everything was flushed, else 1. Writes why the directory did not open to the error
 /// stream too, which manifest ended torn, what is ignored of the logs, which hints are not used or
 /// could not be written, and how many steps of the compaction failed.
-pub(crate) fn serve<H: Threads + Wait + Clock + Copy + Drop + Send + 'static>(
+pub(crate) fn serve<H: Threads + Wait + Clock + Copy + Drop + Send + Sync + 'static>(
     rt: &HostRuntime,
     handle: H,
     path: &str,
     options: Options,
     errors: &mut Stderr,
 ) -> u8 {
-    if options.compact.is_none() {
+    if options.compact.is_none() && options.readers <= 1 {
         return serve_input(rt, handle, rt.stdin(), path, options, errors);
     }
     let Some((to, input)) = Pumped::new(rt.alloc(), handle) else {
@@ -64,7 +64,7 @@ pub(crate) fn serve<H: Threads + Wait + Clock + Copy + Drop + Send + 'static>(
 }
 
 /// Opens the directory at a path and serves it by this input.
-fn serve_input<H: Threads + Wait + Clock + Copy + Drop + Send + 'static, I: Source + Drop>(
+fn serve_input<H: Threads + Wait + Clock + Copy + Drop + Send + Sync + 'static, I: Source + Drop>(
     rt: &HostRuntime,
     handle: H,
     input: I,
@@ -86,7 +86,15 @@ fn serve_input<H: Threads + Wait + Clock + Copy + Drop + Send + 'static, I: Sour
         Ok(opening) => {
             tell_ignored(&opening, errors);
             let (served, ended) = begin(rt, handle, path, options, opening.host, errors);
-            let status = serve_host(served, &mut reader, &mut writer, &mut buffers, errors);
+            let status = serve_host(
+                handle,
+                options.readers,
+                served,
+                &mut reader,
+                &mut writer,
+                &mut buffers,
+                errors,
+            );
             if let Some(ended) = ended {
                 wait_for_end(&handle, &ended);
             }
@@ -122,15 +130,26 @@ fn begin<H: Threads + Wait + Copy + Drop + Send + 'static>(
     }
 }
 
-/// Serves a session, and reports how many steps of the compaction failed.
-fn serve_host<H: Wait + Drop, R: Input, W: Write>(
+/// Serves a session, whose reads this number of threads may share. Reports how many steps of the
+/// compaction failed.
+fn serve_host<
+    H: Threads + Wait + Clock + Copy + Drop + Send + Sync + 'static,
+    R: Input,
+    W: Write,
+>(
+    handle: H,
+    readers: u32,
     mut served: Served<H>,
     reader: &mut R,
     writer: &mut W,
     buffers: &mut Buffers,
     errors: &mut Stderr,
 ) -> u8 {
-    let status = serve_session(&mut served, reader, writer, buffers);
+    let readers = Readers {
+        handle,
+        most: readers as usize,
+    };
+    let status = serve_session(&readers, &mut served, reader, writer, buffers);
     tell_faults(served.host.background.faults(), errors);
     status
 }
@@ -160,14 +179,20 @@ fn tell_ignored(opening: &Opening, errors: &mut Stderr) {
 }
 
 /// Serves a session of an open directory. Returns the exit status.
-fn serve_session<S: Service, R: Input, W: Write>(
+fn serve_session<
+    H: Threads + Clock + Copy + Send + Sync + 'static,
+    S: Service,
+    R: Input,
+    W: Write,
+>(
+    readers: &Readers<H>,
     service: &mut S,
     reader: &mut R,
     writer: &mut W,
     buffers: &mut Buffers,
 ) -> u8 {
     let end = match greet(reader, writer, &WELCOME, buffers) {
-        Ok(first) => serve_requests(service, reader, writer, first, buffers),
+        Ok(first) => serve_requests(readers, service, reader, writer, first, buffers),
         Err(end) => {
             tell_end(writer, end, buffers);
             return 1;

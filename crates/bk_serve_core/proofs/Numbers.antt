@@ -174,8 +174,8 @@ by_3 g a0 a1 a2 f = ap (λ (t : ℕ). g t (back a1) (back a2)) (back_is a0 f.0) 
 pub by_4 : {A : Type 0} (g : ℕ → ℕ → ℕ → ℕ → A) (a0 a1 a2 a3 : ℕ) → Below (a0 ∷ a1 ∷ a2 ∷ a3 ∷ []) → g (back a0) (back a1) (back a2) (back a3) ≡ g a0 a1 a2 a3
 by_4 g a0 a1 a2 a3 f = ap (λ (t : ℕ). g t (back a1) (back a2) (back a3)) (back_is a0 f.0) ∙ ap (λ (t : ℕ). g a0 t (back a2) (back a3)) (back_is a1 f.1.0) ∙ ap (λ (t : ℕ). g a0 a1 t (back a3)) (back_is a2 f.1.1.0) ∙ ap (λ (t : ℕ). g a0 a1 a2 t) (back_is a3 f.1.1.1.0)
 
-pub by_8 : {A : Type 0} (g : ℕ → ℕ → ℕ → ℕ → ℕ → ℕ → ℕ → ℕ → A) (a0 a1 a2 a3 a4 a5 a6 a7 : ℕ) → Below (a0 ∷ a1 ∷ a2 ∷ a3 ∷ a4 ∷ a5 ∷ a6 ∷ a7 ∷ []) → g (back a0) (back a1) (back a2) (back a3) (back a4) (back a5) (back a6) (back a7) ≡ g a0 a1 a2 a3 a4 a5 a6 a7
-by_8 g a0 a1 a2 a3 a4 a5 a6 a7 f = ap (λ (t : ℕ). g t (back a1) (back a2) (back a3) (back a4) (back a5) (back a6) (back a7)) (back_is a0 f.0) ∙ ap (λ (t : ℕ). g a0 t (back a2) (back a3) (back a4) (back a5) (back a6) (back a7)) (back_is a1 f.1.0) ∙ ap (λ (t : ℕ). g a0 a1 t (back a3) (back a4) (back a5) (back a6) (back a7)) (back_is a2 f.1.1.0) ∙ ap (λ (t : ℕ). g a0 a1 a2 t (back a4) (back a5) (back a6) (back a7)) (back_is a3 f.1.1.1.0) ∙ ap (λ (t : ℕ). g a0 a1 a2 a3 t (back a5) (back a6) (back a7)) (back_is a4 f.1.1.1.1.0) ∙ ap (λ (t : ℕ). g a0 a1 a2 a3 a4 t (back a6) (back a7)) (back_is a5 f.1.1.1.1.1.0) ∙ ap (λ (t : ℕ). g a0 a1 a2 a3 a4 a5 t (back a7)) (back_is a6 f.1.1.1.1.1.1.0) ∙ ap (λ (t : ℕ). g a0 a1 a2 a3 a4 a5 a6 t) (back_is a7 f.1.1.1.1.1.1.1.0)
+pub by_10 : {A : Type 0} (g : ℕ → ℕ → ℕ → ℕ → ℕ → ℕ → ℕ → ℕ → ℕ → ℕ → A) (a0 a1 a2 a3 a4 a5 a6 a7 a8 a9 : ℕ) → Below (a0 ∷ a1 ∷ a2 ∷ a3 ∷ a4 ∷ a5 ∷ a6 ∷ a7 ∷ a8 ∷ a9 ∷ []) → g (back a0) (back a1) (back a2) (back a3) (back a4) (back a5) (back a6) (back a7) (back a8) (back a9) ≡ g a0 a1 a2 a3 a4 a5 a6 a7 a8 a9
+by_10 g a0 a1 a2 a3 a4 a5 a6 a7 a8 a9 f = ap (λ (t : ℕ). g t (back a1) (back a2) (back a3) (back a4) (back a5) (back a6) (back a7) (back a8) (back a9)) (back_is a0 f.0) ∙ ap (λ (t : ℕ). g a0 t (back a2) (back a3) (back a4) (back a5) (back a6) (back a7) (back a8) (back a9)) (back_is a1 f.1.0) ∙ ap (λ (t : ℕ). g a0 a1 t (back a3) (back a4) (back a5) (back a6) (back a7) (back a8) (back a9)) (back_is a2 f.1.1.0) ∙ ap (λ (t : ℕ). g a0 a1 a2 t (back a4) (back a5) (back a6) (back a7) (back a8) (back a9)) (back_is a3 f.1.1.1.0) ∙ ap (λ (t : ℕ). g a0 a1 a2 a3 t (back a5) (back a6) (back a7) (back a8) (back a9)) (back_is a4 f.1.1.1.1.0) ∙ ap (λ (t : ℕ). g a0 a1 a2 a3 a4 t (back a6) (back a7) (back a8) (back a9)) (back_is a5 f.1.1.1.1.1.0) ∙ ap (λ (t : ℕ). g a0 a1 a2 a3 a4 a5 t (back a7) (back a8) (back a9)) (back_is a6 f.1.1.1.1.1.1.0) ∙ ap (λ (t : ℕ). g a0 a1 a2 a3 a4 a5 a6 t (back a8) (back a9)) (back_is a7 f.1.1.1.1.1.1.1.0) ∙ ap (λ (t : ℕ). g a0 a1 a2 a3 a4 a5 a6 a7 t (back a9)) (back_is a8 f.1.1.1.1.1.1.1.1.0) ∙ ap (λ (t : ℕ). g a0 a1 a2 a3 a4 a5 a6 a7 a8 t) (back_is a9 f.1.1.1.1.1.1.1.1.1.0)
 
 -- number of bytes of fields
 pub length_fields : (ns tail : List ℕ) → length (fields ns tail) ≡ 8 * length ns + length tail

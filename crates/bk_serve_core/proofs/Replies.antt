@@ -11,7 +11,7 @@ use Rattle.bk_serve_core.specs.Layouts.{fits, reply_layout}
 use Rattle.bk_serve_core.specs.Replies.{Told, told_bytes, told_at, answer_at, refusal_at, ended_at, is_status, replied, Fits}
 use Rattle.bk_serve_core.specs.Replies.Told.{done, refused, ended}
 use Rattle.bk_serve_core.specs.Replies.Answer.{welcome, accepted, held, entry, not_held, last, says_yes, says_no, page, fenced_now, fenced_before, dropped, stored, attribute, no_attribute, flushed, durable, compacted, figures, sealed, nothing_open, closed}
-use Rattle.bk_serve_core.proofs.Numbers.{exact, tailed, words_at, words_below, written, chosen, taken_then, IsBytes-drop, Each, each_below, by_1, by_2, by_4, by_8}
+use Rattle.bk_serve_core.proofs.Numbers.{exact, tailed, words_at, words_below, written, chosen, taken_then, IsBytes-drop, Each, each_below, by_1, by_2, by_4, by_10}
 
 abbrev good : Told → Result Told Fault
 good t = Ok t
@@ -36,7 +36,7 @@ again (done no_attribute) fit = refl
 again (done (flushed entries)) fit = by_1 (λ (x0 : ℕ). good (done (flushed x0))) entries fit.0
 again (done (durable front)) fit = by_1 (λ (x0 : ℕ). good (done (durable x0))) front fit.0
 again (done (compacted logs entries)) fit = by_2 (λ (x0 x1 : ℕ). good (done (compacted x0 x1))) logs entries fit.0
-again (done (figures logs bytes live cached indexed lasting next_log front)) fit = by_8 (λ (x0 x1 x2 x3 x4 x5 x6 x7 : ℕ). good (done (figures x0 x1 x2 x3 x4 x5 x6 x7))) logs bytes live cached indexed lasting next_log front fit.0
+again (done (figures logs bytes live cached indexed lasting next_log front leases failures)) fit = by_10 (λ (x0 x1 x2 x3 x4 x5 x6 x7 x8 x9 : ℕ). good (done (figures x0 x1 x2 x3 x4 x5 x6 x7 x8 x9))) logs bytes live cached indexed lasting next_log front leases failures fit.0
 again (done (sealed log)) fit = by_1 (λ (x0 : ℕ). good (done (sealed x0))) log fit.0
 again (done nothing_open) fit = refl
 again (done (closed front)) fit = by_1 (λ (x0 : ℕ). good (done (closed x0))) front fit.0
@@ -165,7 +165,7 @@ outcome_17 = λ body each is. written reply_layout 49 (words_at 0 2 body) [] bod
 
 outcome_18 : DoneIsWritten 18
 unfolding told_at answer_at refusal_at ended_at told_bytes Fits
-outcome_18 = λ body each is. written reply_layout 50 (words_at 0 8 body) [] body (exact 8 body each is) (words_below 0 8 body each) is
+outcome_18 = λ body each is. written reply_layout 50 (words_at 0 10 body) [] body (exact 10 body each is) (words_below 0 10 body each) is
 
 outcome_19 : DoneIsWritten 19
 unfolding told_at answer_at refusal_at ended_at told_bytes Fits

@@ -84,5 +84,5 @@ reply_layout kind =
     else if kind == 101 then numbers 2
     else if kind == 103 then numbers 2
     else if kind == 104 then numbers 2
-    else if kind == 50 then numbers 8
+    else if kind == 50 then numbers 10
     else numbers 0

@@ -33,7 +33,7 @@ pub data Answer : Type 0 where
   flushed : (entries : ℕ) → Answer
   durable : (front : ℕ) → Answer
   compacted : (logs entries : ℕ) → Answer
-  figures : (logs bytes live cached indexed lasting next_log front : ℕ) → Answer
+  figures : (logs bytes live cached indexed lasting next_log front leases failures : ℕ) → Answer
   sealed : (log : ℕ) → Answer
   nothing_open : Answer
   closed : (front : ℕ) → Answer
@@ -57,7 +57,7 @@ answer d.NoAttribute = no_attribute
 answer (d.Flushed entries) = flushed entries
 answer (d.Durable front) = durable front
 answer (d.Compacted logs entries) = compacted logs entries
-answer (d.Figures logs bytes live cached indexed lasting next_log front) = figures logs bytes live cached indexed lasting next_log front
+answer (d.Figures logs bytes live cached indexed lasting next_log front leases failures) = figures logs bytes live cached indexed lasting next_log front leases failures
 answer (d.Sealed log) = sealed log
 answer d.NothingOpen = nothing_open
 answer (d.Closed front) = closed front
@@ -82,7 +82,7 @@ answer_parts no_attribute = parts 46 [] []
 answer_parts (flushed entries) = parts 47 (entries ∷ []) []
 answer_parts (durable front) = parts 48 (front ∷ []) []
 answer_parts (compacted logs entries) = parts 49 (logs ∷ entries ∷ []) []
-answer_parts (figures logs bytes live cached indexed lasting next_log front) = parts 50 (logs ∷ bytes ∷ live ∷ cached ∷ indexed ∷ lasting ∷ next_log ∷ front ∷ []) []
+answer_parts (figures logs bytes live cached indexed lasting next_log front leases failures) = parts 50 (logs ∷ bytes ∷ live ∷ cached ∷ indexed ∷ lasting ∷ next_log ∷ front ∷ leases ∷ failures ∷ []) []
 answer_parts (sealed log) = parts 51 (log ∷ []) []
 answer_parts nothing_open = parts 52 [] []
 answer_parts (closed front) = parts 53 (front ∷ []) []
@@ -174,7 +174,7 @@ answer_at kind body =
     else if kind == 47 then flushed (word 0 body)
     else if kind == 48 then durable (word 0 body)
     else if kind == 49 then compacted (word 0 body) (word 1 body)
-    else if kind == 50 then figures (word 0 body) (word 1 body) (word 2 body) (word 3 body) (word 4 body) (word 5 body) (word 6 body) (word 7 body)
+    else if kind == 50 then figures (word 0 body) (word 1 body) (word 2 body) (word 3 body) (word 4 body) (word 5 body) (word 6 body) (word 7 body) (word 8 body) (word 9 body)
     else if kind == 51 then sealed (word 0 body)
     else if kind == 52 then nothing_open
     else closed (word 0 body)

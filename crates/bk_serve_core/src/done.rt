@@ -69,7 +69,8 @@ pub enum Done<'a> {
     },
     /// The store: its logs, the bytes of their records, those of live ledgers, the payload bytes of
     /// the write caches, the entries of the index, a number below which every mark of the trail is
-    /// durable, the next log's id, and the length of the trail.
+    /// durable, the next log's id, the length of the trail, the leases that are out, and how often
+    /// the device failed since the directory was opened.
     Figures {
         logs: u64,
         bytes: u64,
@@ -79,6 +80,8 @@ pub enum Done<'a> {
         durable: u64,
         next_log: u64,
         front: u64,
+        leases: u64,
+        failures: u64,
     },
     /// This log was sealed.
     Sealed {

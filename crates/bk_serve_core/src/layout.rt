@@ -122,7 +122,7 @@ pub(crate) fn reply_layout(kind: u8) -> Layout
         ATTRIBUTE => then_bytes(0, 0, LONGEST_ATTRIBUTE as u32),
         COMPACTED | BACKWARDS | FULL | VERSION | CUT | OVERSIZED | BAD_FIELDS | NOT_RISING =>
             numbers(2),
-        FIGURES => numbers(8),
+        FIGURES => numbers(10),
         _ => numbers(0),
     }
 }

@@ -27,7 +27,7 @@ fn put_numbers(out: &mut Vec<u8>, numbers: &[u64]) -> Result<(), AllocError>
 /// Returns the number of bytes of fields.
 #[tactic(auto, using(crate::proofs::Numbers::length_fields, crate::proofs::Numbers::are_numbers))]
 fn fields_length(numbers: &[u64], tail: &[u8]) -> usize
-    requires { length numbers.now ≤ 8 }
+    requires { length numbers.now ≤ 10 }
     ensures value { result ≡ length (fields numbers.now tail.now) }
     ensures numbers { AreNumbers numbers.now }
 {
@@ -65,7 +65,7 @@ pub(crate) fn put(
     numbers: &[u64],
     tail: &[u8],
 ) -> Result<(), EncodeError>
-    requires few { length numbers.now ≤ 8 }
+    requires few { length numbers.now ≤ 10 }
     requires most { layout.most ≤ 5000000 }
     ensures ok { OnOk result (out.new.items ≡ out.old.items ++ frame_of id (body_of (parts kind numbers.now tail.now))) }
     ensures numbers { AreNumbers numbers.now }

@@ -90,6 +90,8 @@ fn outcome_at(kind: u8, body: &[u8]) -> Done<'_>
             durable: word(body, 5),
             next_log: word(body, 6),
             front: word(body, 7),
+            leases: word(body, 8),
+            failures: word(body, 9),
         },
         SEALED => Done::Sealed { log: word(body, 0) },
         NOTHING_OPEN => Done::NothingOpen,

@@ -28,7 +28,7 @@ fn put_reply(
     numbers: &[u64],
     tail: &[u8],
 ) -> Result<(), EncodeError>
-    requires { length numbers.now ≤ 8 }
+    requires { length numbers.now ≤ 10 }
     ensures ok { OnOk result (out.new.items ≡ out.old.items ++ frame_of id (body_of (parts kind numbers.now tail.now))) }
     ensures fits { OnOk result (FitsLayout reply_layout (parts kind numbers.now tail.now)) }
     ensures err { IfErr result (λ e. Refuses e reply_layout (parts kind numbers.now tail.now)) }
@@ -87,12 +87,15 @@ pub(crate) fn put_done(out: &mut Vec<u8>, id: u64, one: &Done<'_>) -> Result<(),
             durable,
             next_log,
             front,
+            leases,
+            failures,
         } => put_reply(
             out,
             id,
             FIGURES,
             &[
-                *logs, *bytes, *live, *cached, *indexed, *durable, *next_log, *front,
+                *logs, *bytes, *live, *cached, *indexed, *durable, *next_log, *front, *leases,
+                *failures,
             ],
             &[],
         ),

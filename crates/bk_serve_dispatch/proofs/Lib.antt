@@ -1,1 +1,4 @@
+mod BegunRuns
+mod PendingFrames
+mod Rounds
 mod Turns

@@ -1,38 +1,34 @@
 -- What a turn does, from what its parts do.
 use Rattle.std.proofs.Common.{◌≡◌, ◌∙◌, ℕ, List, drop, Option, Bool, true, IsTrue, ap, sym, subst, refl}
 use Rattle.std.specs.Io.KnownBytes.{Appends, Keeps}
-use Rattle.bk_serve_core.specs.declared.ended.Ended.{Ended}
-use Rattle.bk_serve_core.specs.declared.ended.Ended.TheVariants as e
 use Rattle.bk_serve_core.specs.Fields.{frame_of}
 use Rattle.bk_serve_core.specs.Reading.{ReadsFrame}
 use Rattle.bk_serve_core.specs.Requests.{Ask, close}
 use Rattle.bk_serve_core.specs.Replies.{Told, done, closed, told_bytes}
-use Rattle.bk_serve_dispatch.specs.declared.ending.End.{End}
 use Rattle.bk_serve_dispatch.specs.declared.ending.End.TheVariants as end
-use Rattle.bk_serve_dispatch.specs.declared.session.Turn.{Turn}
-use Rattle.bk_serve_dispatch.specs.declared.session.Turn.TheVariants as turn
+use Rattle.bk_serve_dispatch.specs.declared.answering.Turn.{Turn}
+use Rattle.bk_serve_dispatch.specs.declared.answering.Turn.TheVariants as turn
 use Rattle.bk_serve_dispatch.specs.Frames.{Asks}
-use Rattle.bk_serve_dispatch.specs.Session.{Point, point, Exchange, Exchanges, more, rests, writes_out, Rests, idle, step, Breaks, CarriesOut, unsaid, Answers, IsTurnAfter, Turns, EndsAt, SaysClosed, Serves, IsAnswered}
+use Rattle.bk_serve_dispatch.specs.Session.{Point, point, Exchange, Exchanges, rests, writes_out, Rests, idle, step, Breaks, Unanswered, carried, unsaid, Answers, IsTurnAfter, TurnsBy, SaysClosed, Serves, IsAnswered}
 
-exchange : {S : Type 0} (answers : S → Ask → Told → S → Type 0) (before : Point S) (after : S) (input output : Option (List ℕ)) (frame : List ℕ) (id : ℕ) (request : Ask)
-    → ReadsFrame true before.input input frame → Asks before.last frame id request → IsAnswered answers before.state request id after before.output output
-    → Exchange answers before request (point id after input output)
-exchange answers before after input output frame id request reads asks is = record {
-  frame = frame;
-  reads = reads;
-  asks = asks;
+exchange : {S : Type 0} (answers : S → Ask → Told → S → Type 0) (last : ℕ) (state after : S) (input input_after output output_after : Option (List ℕ)) (frame : List ℕ) (id : ℕ) (request : Ask)
+    → ReadsFrame true input input_after frame → Asks last frame id request → IsAnswered answers state request id after output output_after
+    → Exchange answers (point last state input output) request (point id after input_after output_after)
+exchange answers last state after input input_after output output_after frame id request reads asks is = record {
   reply = is.0;
-  carried_out = is.1;
+  carries_out = record { frame = frame; reads = reads; asks = asks; carried_out = is.1 };
   written = is.2;
+  pending = refl;
+  overtakes = λ no_add. refl;
 }
 
--- a request that was read was carried out, under another name of its id
-carries_out : {S : Type 0} (answers : S → Ask → Told → S → Type 0) (before : Point S) (after : S) (input : Option (List ℕ)) (frame : List ℕ) (id with_id : ℕ) (request : Ask) (reply : Told)
-    → ReadsFrame true before.input input frame → Asks before.last frame id request → with_id ≡ id → answers before.state request reply after
-    → CarriesOut answers before with_id after input
-carries_out answers before after input frame id with_id request reply reads asks same carried_out =
-    subst (λ n. CarriesOut answers before n after input) (sym same)
-    (record { request = request; frame = frame; reads = reads; asks = asks; reply = reply; carried_out = carried_out })
+-- a request that was read was carried out and not answered, under another name of its id
+unanswered : {S : Type 0} (answers : S → Ask → Told → S → Type 0) (last : ℕ) (state after : S) (input input_after output : Option (List ℕ)) (frame : List ℕ) (id with_id : ℕ) (request : Ask) (reply : Told)
+    → ReadsFrame true input input_after frame → Asks last frame id request → with_id ≡ id → answers state request reply after
+    → Unanswered answers (point last state input output) with_id after input_after
+unanswered answers last state after input input_after output frame id with_id request reply reads asks same carried_out =
+    subst (λ n. Unanswered answers (point last state input output) n after input_after) (sym same)
+    (carried {reply = reply} (record { frame = frame; reads = reads; asks = asks; carried_out = carried_out }))
 
 -- the reply in a frame
 reply_in : (id : ℕ) (reply : Told) → drop 12 (frame_of id (told_bytes reply)) ≡ told_bytes reply
@@ -55,14 +51,14 @@ answered_by answers s request id after output output_after out (turn.Ended (end.
 answered_by answers s request id after output output_after out (turn.Ended end.NotWrittenOut) reply carried_out same written a = absurd a
 
 -- a close that was read and answered
-ends_by_close : {S : Type 0} (answers : S → Ask → Told → S → Type 0) (before : Point S) (after : S) (input output : Option (List ℕ)) (frame : List ℕ) (id : ℕ) (request : Ask) (is_flushed : Bool)
-    → ReadsFrame true before.input input frame → Asks before.last frame id request
-    → (request ≡ close) × (is : IsAnswered answers before.state request id after before.output output) × (IsTrue is_flushed → SaysClosed is.0)
-    → (last : Exchange answers before close (point id after input output)) × (IsTrue is_flushed → SaysClosed last.reply)
+ends_by_close : {S : Type 0} (answers : S → Ask → Told → S → Type 0) (last : ℕ) (state after : S) (input input_after output output_after : Option (List ℕ)) (frame : List ℕ) (id : ℕ) (request : Ask) (is_flushed : Bool)
+    → ReadsFrame true input input_after frame → Asks last frame id request
+    → (request ≡ close) × (is : IsAnswered answers state request id after output output_after) × (IsTrue is_flushed → SaysClosed is.0)
+    → (it : Exchange answers (point last state input output) close (point id after input_after output_after)) × (IsTrue is_flushed → SaysClosed it.reply)
 unfolding exchange
-ends_by_close answers before after input output frame id request is_flushed reads asks a =
-    subst (λ q. (last : Exchange answers before q (point id after input output)) × (IsTrue is_flushed → SaysClosed last.reply)) a.0
-    (exchange answers before after input output frame id request reads asks a.1, a.2)
+ends_by_close answers last state after input input_after output output_after frame id request is_flushed reads asks a =
+    subst (λ q. (it : Exchange answers (point last state input output) q (point id after input_after output_after)) × (IsTrue is_flushed → SaysClosed it.reply)) a.0
+    (exchange answers last state after input input_after output output_after frame id request reads asks a.1, a.2)
 
 -- a frame that was read, under another name
 pub whole : (before after : Option (List ℕ)) (is : Bool) (frame read : List ℕ) → is ≡ true → frame ≡ read → ReadsFrame is before after read
@@ -71,35 +67,27 @@ whole before after is frame read known same reads =
     subst (λ f. ReadsFrame true before after f) (sym same) (subst (λ b. ReadsFrame b before after read) known reads)
 
 -- a request that was read is carried out
-pub carried : {S : Type 0} (answers : S → Ask → Told → S → Type 0) (before : Point S) (after : S) (input output : Option (List ℕ)) (frame : List ℕ) (id : ℕ) (request : Ask) (t : Turn)
-    → ReadsFrame true before.input input frame → Asks before.last frame id request → Answers answers before.state request id after before.output output t
-    → Turns answers before after input output t
-carried answers before after input output frame id request (turn.Answered next) reads asks a =
-    (request, a.1, subst (λ n. Exchange answers before request (point n after input output)) (sym a.0) (exchange answers before after input output frame id request reads asks a.2))
-carried answers before after input output frame id request (turn.Ended (end.Closed is_flushed)) reads asks a =
-    let closes = ends_by_close answers before after input output frame id request is_flushed reads asks a in
+pub carried_by : {S : Type 0} (answers : S → Ask → Told → S → Type 0) (last : ℕ) (state after : S) (input input_after output output_after : Option (List ℕ)) (frame : List ℕ) (id : ℕ) (request : Ask) (t : Turn)
+    → ReadsFrame true input input_after frame → Asks last frame id request → Answers answers state request id after output output_after t
+    → TurnsBy answers (point last state input output) after input_after output_after t
+carried_by answers last state after input input_after output output_after frame id request (turn.Answered next) reads asks a = (
+  request,
+  a.1,
+  subst (λ n. Exchange answers (point last state input output) request (point n after input_after output_after)) (sym a.0)
+      (exchange answers last state after input input_after output output_after frame id request reads asks a.2),
+)
+carried_by answers last state after input input_after output output_after frame id request (turn.Ended (end.Closed is_flushed)) reads asks a =
+    let closes = ends_by_close answers last state after input input_after output output_after frame id request is_flushed reads asks a in
     (id, closes.0, closes.1)
-carried answers before after input output frame id request (turn.Ended end.Over) reads asks a = absurd a
-carried answers before after input output frame id request (turn.Ended (end.Fault with_id why)) reads asks a =
-    (a.2, subst (λ w. Breaks answers before after input with_id w) (sym a.1) (unsaid (carries_out answers before after input frame id with_id request a.3.0 reads asks a.0 a.3.1)))
-carried answers before after input output frame id request (turn.Ended (end.OutputFailed with_id)) reads asks a =
-    carries_out answers before after input frame id with_id request a.1.0 reads asks a.0 a.1.1
-carried answers before after input output frame id request (turn.Ended end.NotWrittenOut) reads asks a = absurd a
-
--- a turn that ends the session, after exchanges
-pub ended : {S : Type 0} (answers : S → Ask → Told → S → Type 0) (works : S → S → Type 0) (start : Point S) (last : ℕ) (state after : S) (input output input_after output_after : Option (List ℕ)) (t : Turn) (how : End)
-    → Exchanges answers works start (point last state input output) → t ≡ turn.Ended how → Turns answers (point last state input output) after input_after output_after t
-    → Serves answers works start after input_after output_after how
-ended answers works start last state after input output input_after output_after t how so_far is turns =
-    (point last state input output, so_far, subst (λ x. Turns answers (point last state input output) after input_after output_after x) is turns)
-
--- a turn that answers, after exchanges
-pub answered : {S : Type 0} (answers : S → Ask → Told → S → Type 0) (works : S → S → Type 0) (start : Point S) (before : Point S) (after : S) (input output : Option (List ℕ)) (t : Turn) (id : ℕ)
-    → Exchanges answers works start before → t ≡ turn.Answered id → Turns answers before after input output t
-    → Exchanges answers works start (point id after input output)
-answered answers works start before after input output t id so_far is turns =
-    let a : Turns answers before after input output (turn.Answered id) = subst (λ x. Turns answers before after input output x) is turns in
-    more so_far a.2 a.1
+carried_by answers last state after input input_after output output_after frame id request (turn.Ended end.Over) reads asks a = absurd a
+carried_by answers last state after input input_after output output_after frame id request (turn.Ended (end.Fault with_id why)) reads asks a = (
+  a.2,
+  subst (λ w. Breaks answers (point last state input output) after input_after with_id w) (sym a.1)
+      (unsaid (unanswered answers last state after input input_after output frame id with_id request a.3.0 reads asks a.0 a.3.1)),
+)
+carried_by answers last state after input input_after output output_after frame id request (turn.Ended (end.OutputFailed with_id)) reads asks a =
+    unanswered answers last state after input input_after output frame id with_id request a.1.0 reads asks a.0 a.1.1
+carried_by answers last state after input input_after output output_after frame id request (turn.Ended end.NotWrittenOut) reads asks a = absurd a
 
 -- steps of the service, and further ones
 pub rested : {S : Type 0} (works : S → S → Type 0) (a b c : S) → Rests works a b → Rests works b c → Rests works a c
@@ -110,14 +98,14 @@ pub one_step : {S : Type 0} (works : S → S → Type 0) (a b : S) → works a b
 one_step works a b turn = step idle turn
 
 -- a pause, after exchanges
-pub paused : {S : Type 0} (answers : S → Ask → Told → S → Type 0) (works : S → S → Type 0) (start : Point S) (last : ℕ) (state after : S) (input output output_after : Option (List ℕ))
-    → Exchanges answers works start (point last state input output) → Rests works state after → Keeps output output_after
-    → Exchanges answers works start (point last after input output_after)
-paused answers works start last state after input output output_after so_far rest keeps = writes_out (rests so_far rest) keeps
+pub paused : {S : Type 0} (is_ahead : Bool) (answers : S → Ask → Told → S → Type 0) (works : S → S → Type 0) (start : Point S) (last : ℕ) (state after : S) (input output output_after : Option (List ℕ))
+    → Exchanges is_ahead answers works start (point last state input output) → Rests works state after → Keeps output output_after
+    → Exchanges is_ahead answers works start (point last after input output_after)
+paused is_ahead answers works start last state after input output output_after so_far rest keeps = writes_out (rests so_far rest) keeps
 
 -- a pause in which the writer failed, after exchanges
-pub cut_off : {S : Type 0} (answers : S → Ask → Told → S → Type 0) (works : S → S → Type 0) (start : Point S) (last : ℕ) (state after : S) (input output output_after : Option (List ℕ))
-    → Exchanges answers works start (point last state input output) → Rests works state after
-    → Serves answers works start after input output_after end.NotWrittenOut
-cut_off answers works start last state after input output output_after so_far rest =
+pub cut_off : {S : Type 0} (is_ahead : Bool) (answers : S → Ask → Told → S → Type 0) (works : S → S → Type 0) (start : Point S) (last : ℕ) (state after : S) (input output output_after : Option (List ℕ))
+    → Exchanges is_ahead answers works start (point last state input output) → Rests works state after
+    → Serves is_ahead answers works start after input output_after end.NotWrittenOut
+cut_off is_ahead answers works start last state after input output output_after so_far rest =
     (point last after input output, rests so_far rest, (refl, refl))

@@ -11,12 +11,20 @@ pub trait Source: Read {
     /// Returns whether bytes, or the end of the input, may wait to be read. True if that is not
     /// known.
     fn is_waiting(&self) -> bool;
+
+    /// Returns whether bytes, or the end of the input, are there, so that a read does not wait.
+    /// False if that is not known.
+    fn is_there(&self) -> bool;
 }
 
 /// The standard input cannot tell.
 impl Source for Stdin {
     fn is_waiting(&self) -> bool {
         true
+    }
+
+    fn is_there(&self) -> bool {
+        false
     }
 }
 
@@ -27,6 +35,10 @@ pub trait Input: Read {
 
     /// Returns whether bytes, or the end of the input, may wait to be read.
     fn is_waiting(&self) -> bool;
+
+    /// Returns whether a whole frame, further bytes, or the end of the input are there. Then only
+    /// the rest of a frame may have to be waited for.
+    fn is_there(&self) -> bool;
 }
 
 impl<R: Source> Input for BufReader<R, Global> {
@@ -36,6 +48,10 @@ impl<R: Source> Input for BufReader<R, Global> {
 
     fn is_waiting(&self) -> bool {
         !self.buffer().is_empty() || self.get_ref().is_waiting()
+    }
+
+    fn is_there(&self) -> bool {
+        begins_with_frame(self.buffer()) || self.get_ref().is_there()
     }
 }
 

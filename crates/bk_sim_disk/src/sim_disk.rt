@@ -49,6 +49,10 @@ impl LogDisk for SimDisk {
         true
     }
 
+    fn count_failures(&self) -> u64 {
+        0
+    }
+
     fn list(&mut self, alloc: Global) -> Result<Vec<u32>, DiskFault> {
         self.logs
             .keys()

@@ -1,6 +1,7 @@
-//! Leases of logs: granting one, closing a log that has none, and returning the disk.
+//! Leases of logs: granting one, counting them, closing a log that has none, and returning the disk.
 
 ghost use Rattle.std.specs.Prelude.{◌≡◌, OnOk, IfOk, IfErr};
+ghost use Rattle.bk_lease.specs.Values.{CountsLeases};
 ghost use Rattle.bk_store.specs.Invariant.{StoreInvariant};
 ghost use Rattle.bk_store.specs.Primitives.{IsIn};
 ghost use Rattle.bk_store.specs.Logs.{HasOpenView};
@@ -70,6 +71,14 @@ impl<D: LogDisk> Fields<D> {
             Err(PinFault::NoSeat) => Err(TakeFault::NoSeat),
             Err(PinFault::TooMany) => Err(TakeFault::TooMany),
         }
+    }
+
+    /// Counts the leases of all logs.
+    pub fn count_leases(&mut self) -> u64
+        ensures unchanged { self.new ≡ self.old }
+        ensures counts { CountsLeases self.old.state.keeper result }
+    {
+        self.keeper.count_leases()
     }
 
     /// Closes a Retired log and its slot.

@@ -1,8 +1,9 @@
 //! Counts that a store knows at once.
 
-ghost use Rattle.std.specs.Prelude.{◌≡◌, ◌≤◌, ◌^◌, length};
+ghost use Rattle.std.specs.Prelude.{◌≡◌, ◌-◌, ◌≤◌, ◌^◌, length, min};
 ghost use Rattle.std.specs.FinMap as map;
 ghost use Rattle.bk_cache.specs.Caches.{used_of, flush_of};
+ghost use Rattle.bk_lease.specs.Values.{CountsLeases};
 
 use crate::Store;
 use bk_disk::LogDisk;
@@ -24,6 +25,9 @@ pub struct Stats {
     pub front: u64,
     /// Number of marks that are durable: the durable front.
     pub durable: u64,
+    /// How often the device has failed in calls of the disk, at most 2^64 - 1. Failed reads of a
+    /// view are not among them.
+    pub failures: u64,
 }
 
 impl<D: LogDisk> Store<D> {
@@ -36,6 +40,7 @@ impl<D: LogDisk> Store<D> {
         ensures flushing { result.flushing ≡ used_of (flush_of self.now.caches) }
         ensures front { result.front ≡ length self.now.ledgers.trail }
         ensures durable { result.durable ≡ self.now.fronts.durable }
+        ensures failures { result.failures ≡ min self.now.failures (2 ^ 64 - 1) }
         ensures within { result.cached ≤ self.now.caches.limit }
         ensures ids { result.next ≤ 2 ^ 31 }
     {
@@ -48,6 +53,20 @@ impl<D: LogDisk> Store<D> {
             flushing: fields.caches.flush_used(),
             front: fields.ledgers.front(),
             durable: fields.fronts.durable,
+            failures: fields.disk.count_failures(),
         }
+    }
+
+    /// Returns the number of outstanding leases, over all logs, at most 2^64 - 1.
+    ///
+    /// It is the sum of one number for each log that is held: of a closed log 0, of any other its
+    /// leases at one step of the call. Other threads may give leases back between these steps. So
+    /// the sum is at most the number of leases when the call begins, and at least the number when it
+    /// ends. One load for each log that is not closed; no wait.
+    pub fn count_leases(&mut self) -> u64
+        ensures unchanged { self.new ≡ self.old }
+        ensures counts { CountsLeases self.old.keeper result }
+    {
+        self.fields.count_leases()
     }
 }

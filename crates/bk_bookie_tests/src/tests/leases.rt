@@ -202,6 +202,18 @@ fn lease_main<L: AddLedger, R: Wait + Abort>(
     main
 }
 
+/// Returns the number of leases that the bookie counts, or `None` if the call is refused.
+fn counted<L: AddLedger, R: Wait>(
+    rt: &R,
+    bookie: &Bookie<L, MemDisk>,
+    pass: &mut Pass<L>,
+) -> Option<u64> {
+    match bookie.count_leases(rt, pass) {
+        Ok(count) => Some(count),
+        Err(_) => None,
+    }
+}
+
 /// Two callers hold leases while the ledger is deleted, and then end them. Returns their passes.
 fn lend_to_both<L: AddLedger + Send + Sync, R: Threads + Wait + Abort + Sync>(
     rt: &R,
@@ -210,6 +222,7 @@ fn lend_to_both<L: AddLedger + Send + Sync, R: Threads + Wait + Abort + Sync>(
     pass: &mut Pass<L>,
 ) -> (Pass<L>, Pass<L>) {
     let (first, second) = lease_by_both(rt, alloc, bookie);
+    assert!(rt; counted(rt, bookie, pass) == Some(201));
     assert!(rt; goes(rt, bookie, pass));
     let Caller {
         pass: one,
@@ -252,6 +265,7 @@ fn live<L: AddLedger + Send + Sync, R: Threads + Wait + Abort + Sync>(
     let main = lease_main(rt, &bookie, &mut third);
     let (first, second) = lend_to_both(rt, alloc, &bookie, &mut third);
     assert!(rt; is_last(rt, alloc, &bookie, &main));
+    assert!(rt; counted(rt, &bookie, &mut third) == Some(1));
     let held = Held::new(rt, alloc, bookie, third);
     let held = held.with(rt, first).with(rt, second);
     end(rt, alloc, held, main);

@@ -194,6 +194,10 @@ impl ManifestFile for TestFile {
 
     ghost failures = { λ file. file.failures };
 
+    fn count_failures(&self) -> u64 {
+        self.failures
+    }
+
     fn read(&mut self, alloc: Global) -> Result<Vec<u8>, FileFault> {
         if self.fails() {
             return Err(FileFault::Disk);

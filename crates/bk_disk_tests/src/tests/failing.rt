@@ -116,9 +116,10 @@ fn a_disk_in_memory_loses_nothing_and_keeps_all(rt: HostRuntime) {
     assert!(rt; said_of(&one_log(&rt, alloc)) == (false, true));
     let mut disk = FaultDisk::new(one_log(&rt, alloc), 1, 0);
     assert!(rt; said_of(&disk) == (false, true));
-    assert!(rt; !disk.has_failed());
+    assert!(rt; !disk.has_failed() && disk.count_failures() == 0);
     assert!(rt; disk.sync(alloc, 4) == Err(DiskFault::Disk));
     assert!(rt; said_of(&disk) == (false, true));
+    assert!(rt; disk.count_failures() == 1);
 }
 
 const NO_LOG: [Row; 3] = [
@@ -145,6 +146,7 @@ fn an_append_that_fails_on_two_disks_keeps_the_fewer_bytes(rt: HostRuntime) {
         let underneath = FaultDisk::new(one_log(&rt, rt.alloc()), 1, *inner);
         let mut disk = FaultDisk::new(underneath, 1, *outer);
         check(&rt, rt.alloc(), &mut disk, &FEWER);
+        assert!(rt; disk.count_failures() == 1, "one call failed");
     }
 }
 

@@ -51,8 +51,9 @@ const MADE_AGAIN: [Row; 5] = [
     (Call::Sync(1), Want::Done),
 ];
 
-const CLOSED: [Act; 13] = [
+const CLOSED: [Act; 16] = [
     Act::Open,
+    Act::Failed(0),
     Act::Calls(&BEGUN),
     Act::IsLost(1, false),
     Act::IsKept(1, false),
@@ -61,10 +62,12 @@ const CLOSED: [Act; 13] = [
     Act::Calls(&LOST),
     Act::IsLost(1, true),
     Act::IsLost(2, false),
+    Act::Failed(3),
     Act::Calls(&MORE),
     Act::Calls(&LOST),
     Act::Calls(&MADE_AGAIN),
     Act::IsLost(1, false),
+    Act::Failed(6),
 ];
 
 #[test]

@@ -53,6 +53,8 @@ pub(super) enum Act {
     IsLost(u16, bool),
     /// Whether all bytes of a log are durable: log, answer.
     IsKept(u16, bool),
+    /// How often the device has failed.
+    Failed(u64),
 }
 
 /// A test on a directory: the disk, another one, and the views that are kept.
@@ -146,6 +148,7 @@ impl Stage {
                 check(abort, alloc, disk, rows);
                 true
             }
+            Act::Failed(count) => disk.count_failures() == count,
             Act::KeepOpen(most) => {
                 disk.keep_open(most);
                 true

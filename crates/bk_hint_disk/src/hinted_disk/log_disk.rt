@@ -35,6 +35,10 @@ impl<D: LogDisk, H: Hints> LogDisk for HintedDisk<D, H> {
         self.inner.is_kept(log)
     }
 
+    fn count_failures(&self) -> u64 {
+        self.inner.count_failures()
+    }
+
     /// Lists the logs. The next view of each gets its hint.
     fn list(&mut self, alloc: Global) -> Result<Vec<u32>, DiskFault> {
         let logs = self.inner.list(alloc)?;

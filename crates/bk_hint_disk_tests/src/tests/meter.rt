@@ -103,6 +103,10 @@ impl<D: LogDisk> LogDisk for MeterDisk<D> {
         self.inner.is_kept(log)
     }
 
+    fn count_failures(&self) -> u64 {
+        self.inner.count_failures()
+    }
+
     fn list(&mut self, alloc: Global) -> Result<Vec<u32>, DiskFault> {
         self.inner.list(alloc)
     }

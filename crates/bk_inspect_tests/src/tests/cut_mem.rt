@@ -126,6 +126,10 @@ impl LogDisk for CutMem {
         self.disk.is_kept(log)
     }
 
+    fn count_failures(&self) -> u64 {
+        self.calls.failures
+    }
+
     fn list(&mut self, alloc: Global) -> Result<Vec<u32>, DiskFault> {
         let answer = self.disk.list(alloc);
         self.calls.give("list", answer)

@@ -67,6 +67,10 @@ impl LogDisk for Leaving {
         self.disk.is_kept(log)
     }
 
+    fn count_failures(&self) -> u64 {
+        0
+    }
+
     fn list(&mut self, alloc: Global) -> Result<Vec<u32>, DiskFault> {
         let Ok(ids) = self.disk.list(alloc) else {
             return Err(DiskFault::Memory);

@@ -188,6 +188,7 @@ const COUNTS: Stats = Stats {
     flushing: 136,
     front: 15,
     durable: 0,
+    failures: 0,
 };
 
 #[test]

@@ -78,6 +78,10 @@ impl LogDisk for Lengths {
         false
     }
 
+    fn count_failures(&self) -> u64 {
+        0
+    }
+
     fn list(&mut self, alloc: Global) -> Result<Vec<u32>, DiskFault> {
         let mut ids = Vec::new(alloc);
         if self.length.is_some() {

@@ -37,10 +37,16 @@ pub(crate) const UPKEEP: Upkeep = Upkeep {
     major_every: DAY,
 };
 
+/// Three days of the same load.
+const SHORT: Load = Load {
+    seconds: 3 * DAY,
+    ..LOAD
+};
+
 /// Runs the load where a record of this many bytes stands for an entry.
-fn run<D: LogDisk>(alloc: Global, disk: D, record: u32) -> Result<Outcome, SimFault> {
+fn run<D: LogDisk>(alloc: Global, disk: D, load: Load, record: u32) -> Result<Outcome, SimFault> {
     let scale = Scale { batch: 1, record };
-    match Plan::new(LOAD, UPKEEP, scale) {
+    match Plan::new(load, UPKEEP, scale) {
         Ok(plan) => simulate(alloc, disk, plan, Cost::MEASURED),
         Err(_) => Err(SimFault::Answer("plan")),
     }
@@ -56,8 +62,8 @@ fn are_same(one: &Outcome, other: &Outcome) -> bool {
 
 /// Returns whether the runs on both disks are the same, and had compactions.
 fn compare(alloc: Global) -> Result<bool, SimFault> {
-    let thin = run(alloc, SimDisk::new(alloc), 100)?;
-    let plain = run(alloc, MemDisk::new(alloc), 100)?;
+    let thin = run(alloc, SimDisk::new(alloc), SHORT, 100)?;
+    let plain = run(alloc, MemDisk::new(alloc), SHORT, 100)?;
     Ok(are_same(&thin, &plain) && thin.tally.minor > 0 && thin.tally.major > 0)
 }
 
@@ -68,10 +74,11 @@ fn a_run_on_the_simulated_disk_is_that_on_a_disk_in_memory(rt: HostRuntime) {
 
 /// Returns whether a run whose records have 40 bytes does the same as one with 100.
 fn scales(alloc: Global) -> Result<bool, SimFault> {
-    let small = run(alloc, SimDisk::new(alloc), 40)?;
-    let whole = run(alloc, SimDisk::new(alloc), 100)?;
+    let small = run(alloc, SimDisk::new(alloc), SHORT, 40)?;
+    let whole = run(alloc, SimDisk::new(alloc), SHORT, 100)?;
     Ok(
         small.tally == whole.tally
+            && whole.tally.minor + whole.tally.major > 0
             && small.samples == whole.samples
             && small.write_amplification() == whole.write_amplification(),
     )

@@ -39,7 +39,7 @@ public enum Status {
     /** Fields: logs, entries. */
     COMPACTED(49, 2, 0, 0),
     /** Fields: logs, bytes, live, cached, indexed, durable, next_log, front. */
-    FIGURES(50, 8, 0, 0),
+    FIGURES(50, 10, 0, 0),
     /** Fields: log. */
     SEALED(51, 1, 0, 0),
     /** No fields. */

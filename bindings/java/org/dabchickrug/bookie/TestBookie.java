@@ -205,7 +205,8 @@ public final class TestBookie {
 
     private static void figures(Bookie bookie) throws IOException {
         long[] found = bookie.stats().numbers();
-        print("figures", found[7], found[3], found[4], found[2] <= found[1] && found[5] <= found[7]);
+        boolean within = found[2] <= found[1] && found[5] <= found[7];
+        print("figures", found[7], found[3], found[4], within, found[8], found[9]);
     }
 
     private static void firstSession(Bookie bookie) throws IOException, InterruptedException {

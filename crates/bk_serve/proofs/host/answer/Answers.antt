@@ -43,10 +43,10 @@ pub returns-in-Close : goal.returns-in-Close
 returns-in-Close g c = rw c.in-Close.is (told c.close.result, (c.close.ensures, refl), c.encode-in-Close.ensures.ok)
 
 pub returns-in-Read : goal.returns-in-Read
-returns-in-Read g c = rw c.in-Read.is (c.read.ensures.0, (c.read.ensures.1, refl), c.read.ensures.2)
+returns-in-Read g c = rw c.in-Read.is (c.run_read.ensures.0, (c.begin_read.ensures c.run_read.ensures.0 c.run_read.ensures.1, refl), c.run_read.ensures.2)
 
 pub returns-in-ReadBack : goal.returns-in-ReadBack
-returns-in-ReadBack g c = rw c.in-ReadBack.is (c.read_back.ensures.0, (c.read_back.ensures.1, refl), c.read_back.ensures.2)
+returns-in-ReadBack g c = rw c.in-ReadBack.is (c.run_read-in-ReadBack.ensures.0, (c.begin_read_back.ensures c.run_read-in-ReadBack.ensures.0 c.run_read-in-ReadBack.ensures.1, refl), c.run_read-in-ReadBack.ensures.2)
 
 pub returns-in-MasterKey : goal.returns-in-MasterKey
 returns-in-MasterKey g c = rw c.in-MasterKey.is (c.attribute.ensures.0, (c.attribute.ensures.1, (refl, refl)), c.attribute.ensures.2)
@@ -58,7 +58,7 @@ pub returns-in-Hello : goal.returns-in-Hello
 returns-in-Hello g c = rw c.in-Hello.is (refused f.NotOffered, (refl, (refl, refl)), c.not_offered.ensures)
 
 pub returns-in-ReadLast : goal.returns-in-ReadLast
-returns-in-ReadLast g c = rw c.in-ReadLast.is (c.read_last.ensures.0, (c.read_last.ensures.1, refl), c.read_last.ensures.2)
+returns-in-ReadLast g c = rw c.in-ReadLast.is (c.run_read-in-ReadLast.ensures.0, (c.begin_read_last.ensures c.run_read-in-ReadLast.ensures.0 c.run_read-in-ReadLast.ensures.1, refl), c.run_read-in-ReadLast.ensures.2)
 
 pub returns-in-LastEntry : goal.returns-in-LastEntry
 returns-in-LastEntry g c = rw c.in-LastEntry.is (told c.last_entry.result, (c.last_entry.ensures, (refl, refl)), c.encode-in-LastEntry.ensures.ok)
@@ -70,4 +70,4 @@ pub returns-in-Ledgers : goal.returns-in-Ledgers
 returns-in-Ledgers g c = rw c.in-Ledgers.is (c.ledgers.ensures.0, (c.ledgers.ensures.1, (refl, refl)), c.ledgers.ensures.2)
 
 pub returns-in-Stats : goal.returns-in-Stats
-returns-in-Stats g c = rw c.in-Stats.is (told c.figures.result, (c.figures.ensures, (refl, refl)), c.encode-in-Stats.ensures.ok)
+returns-in-Stats g c = rw c.in-Stats.is (told c.figures.result, (c.figures.ensures.says, (c.figures.ensures.same, refl)), c.encode-in-Stats.ensures.ok)

@@ -1,25 +1,29 @@
-use Rattle.std.proofs.Common.{None, refl}
+use Rattle.std.proofs.Common.{None, nat_lt, refl}
 use Rattle.bk_serve_dispatch.specs.Session.{none, unread, point}
-use Rattle.bk_serve_dispatch.proofs.Turns.{answered, cut_off, ended, paused}
+use Rattle.bk_serve_dispatch.proofs.Rounds.{chained}
+use Rattle.bk_serve_dispatch.proofs.Turns.{cut_off, paused}
 use Rattle.bk_serve_dispatch.proofs.session.serve_requests.Goals as goal
 
-pub loop-number-init : goal.loop-number-init
-loop-number-init g c = none
+pub loop-init : goal.loop-init
+loop-init g c = none
 
-pub loop-number-preserved : goal.loop-number-preserved
-loop-number-preserved g c =
-    answered g.S.Service.answers g.S.Service.works _ _ _ _ _ c.take_turn.result c.in-Answered.id
-    (paused g.S.Service.answers g.S.Service.works _ _ _ _ _ _ _ c.loop-number.invariant c.pause.ensures.state (c.pause.ensures.output c.if-not-pause.false))
-    c.in-Answered.is c.take_turn.ensures
+pub loop-preserved : goal.loop-preserved
+loop-preserved g c =
+    chained (nat_lt 1 c.args.readers.now.most) g.S.Service.answers g.S.Service.works _ _ _
+    (paused (nat_lt 1 c.args.readers.now.most) g.S.Service.answers g.S.Service.works _ _ _ _ _ _ _ c.loop.invariant c.pause.ensures.state (c.pause.ensures.output c.if-not-pause.false))
+    c.in-Answered.ensures
 
 pub returns : goal.returns
-returns g c = (point _ _ _ _, c.loop-number.invariant, (refl, unread refl))
+returns g c = (point _ _ _ _, c.loop.invariant, (refl, unread refl refl))
 
 pub returns-then-not-pause : goal.returns-then-not-pause
-returns-then-not-pause g c = cut_off g.S.Service.answers g.S.Service.works _ _ _ _ _ _ None c.loop-number.invariant c.pause.ensures.state
+returns-then-not-pause g c = cut_off (nat_lt 1 c.args.readers.now.most) g.S.Service.answers g.S.Service.works _ _ _ _ _ _ None c.loop.invariant c.pause.ensures.state
 
 pub returns-in-Ended : goal.returns-in-Ended
-returns-in-Ended g c =
-    ended g.S.Service.answers g.S.Service.works _ _ _ _ _ _ _ _ c.take_turn.result c.in-Ended.end
-    (paused g.S.Service.answers g.S.Service.works _ _ _ _ _ _ _ c.loop-number.invariant c.pause.ensures.state (c.pause.ensures.output c.if-not-pause.false))
-    c.in-Ended.is c.take_turn.ensures
+returns-in-Ended g c = (
+  c.in-Ended.ensures.0,
+  chained (nat_lt 1 c.args.readers.now.most) g.S.Service.answers g.S.Service.works _ _ _
+      (paused (nat_lt 1 c.args.readers.now.most) g.S.Service.answers g.S.Service.works _ _ _ _ _ _ _ c.loop.invariant c.pause.ensures.state (c.pause.ensures.output c.if-not-pause.false))
+      c.in-Ended.ensures.1,
+  c.in-Ended.ensures.2,
+)

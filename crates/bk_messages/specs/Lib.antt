@@ -1,0 +1,5 @@
+pub mod Disks
+pub mod Kinds
+pub mod Quiet
+pub mod Rows
+pub mod Ways
