@@ -132,11 +132,7 @@ fn begin<H: Threads + Wait + Copy + Drop + Send + 'static>(
 
 /// Serves a session, whose reads this number of threads may share. Reports how many steps of the
 /// compaction failed.
-fn serve_host<
-    H: Threads + Wait + Clock + Copy + Drop + Send + Sync + 'static,
-    R: Input,
-    W: Write,
->(
+fn serve_host<H: Threads + Wait + Clock + Copy + Drop + Send + Sync + 'static, R: Input, W: Write>(
     handle: H,
     readers: u32,
     mut served: Served<H>,
@@ -179,12 +175,7 @@ fn tell_ignored(opening: &Opening, errors: &mut Stderr) {
 }
 
 /// Serves a session of an open directory. Returns the exit status.
-fn serve_session<
-    H: Threads + Clock + Copy + Send + Sync + 'static,
-    S: Service,
-    R: Input,
-    W: Write,
->(
+fn serve_session<H: Threads + Clock + Copy + Send + Sync + 'static, S: Service, R: Input, W: Write>(
     readers: &Readers<H>,
     service: &mut S,
     reader: &mut R,
