@@ -6,3 +6,4 @@ pub mod Names
 pub mod Durable
 pub mod Doubts
 pub mod Cutting
+pub mod Runs

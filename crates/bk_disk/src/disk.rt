@@ -4,15 +4,16 @@
 //! files hold on an honest disk, which may fail. On any disk each call returns, honesty is
 //! unchanged, and `Disk` is returned exactly if the number of failures rises.
 
-ghost use Rattle.std.specs.Prelude.{◌≡◌, ℕ, ◌-◌, ◌<◌, ◌^◌, min, Bool, false, List, length, drop, IsTrue, IsErrOf};
+ghost use Rattle.std.specs.Prelude.{◌≡◌, ℕ, ◌-◌, ◌<◌, ◌^◌, min, Bool, false, List, length, drop, IsTrue, IsErrOf, IfSome};
 ghost use Rattle.std.specs.List.{All};
 ghost use Rattle.bk_record.specs.Files.{Files};
 ghost use Rattle.bk_disk.specs.Disk.{AreLogFiles, FailsExactlyOnDiskFault, Lists, Measures, Creates, Appends, Patches, Syncs};
 ghost use Rattle.bk_disk.specs.Durable.{DurableGrows, IsAllDurable, SyncDurability, ListDurability, RemoveDurability};
 ghost use Rattle.bk_disk.specs.Disk.{Reads, Views, Removes, ReadsView, ReadsInto, view_end};
 ghost use Rattle.bk_disk.specs.Blocks.{HasPrefix};
+ghost use Rattle.bk_disk.specs.Runs.{IsRunAt};
 
-use crate::DiskFault;
+use crate::{DiskFault, RecordRun};
 use bk_record::HEADER_LENGTH;
 use std::alloc::Global;
 
@@ -53,6 +54,15 @@ pub trait LogView: Send + Sync + Drop {
         ensures { IsTrue (honest self.now) → HasPrefix (drop at (bytes self.now)) result.now }
     {
         &[]
+    }
+
+    /// Returns records that stand at position `at`, if the view knows their heads without reading
+    /// them. Calls no device.
+    fn lend_run(&self, at: u64) -> Option<RecordRun>
+        ensures { IsTrue (honest self.now) → IfSome result (IsRunAt (bytes self.now) at) }
+    {
+        let _ = at;
+        None
     }
 
     /// Returns `n` bytes from position `at` on.
