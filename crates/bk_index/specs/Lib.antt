@@ -3,3 +3,4 @@ pub mod Sorted
 pub mod Pages
 pub mod Packed
 pub mod Forms
+pub mod Runs

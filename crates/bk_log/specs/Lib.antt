@@ -12,3 +12,4 @@ pub mod Fronts
 pub mod Ahead
 pub mod Scanning
 pub mod Scanned
+pub mod FoundRuns

@@ -10,3 +10,13 @@ pub struct Found {
     pub at: u64,
     pub size: u32,
 }
+
+/// Entries of one ledger and one size whose records stand directly one behind another, with
+/// consecutive entry ids.
+#[derive(Clone, Copy, Debug, PartialEq, Eq)]
+pub struct FoundRun {
+    /// The first entry.
+    pub first: Found,
+    /// Number of entries.
+    pub count: u32,
+}

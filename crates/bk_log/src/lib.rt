@@ -16,7 +16,7 @@ mod writer;
 
 pub use fault::{CreateFault, FetchFault, LogFault, ScanFault};
 pub use fetching::fetch;
-pub use found::Found;
+pub use found::{Found, FoundRun};
 pub use laws::{
     a_scan_goes_on, logs_only_grow, one_record_at_a_place, sizes_are_sums, whole_log_is_one_part,
 };

@@ -1,15 +1,16 @@
 //! Scan of a part of a log, entry by entry. Each record before the position was returned or passed
 //! as foreign; an error and the end are final.
 
-ghost use Rattle.std.specs.Prelude.{◌≡◌, ◌+◌, ◌≤◌, ℕ, List, length, false, IsTrue, IsErrOf, IfSome};
+ghost use Rattle.std.specs.Prelude.{◌≡◌, ◌+◌, ◌≤◌, ℕ, List, length, false, IsTrue, IsErrOf, IfSome, IfNone};
 ghost use Rattle.bk_disk.specs.Disk.{view_end};
 ghost use Rattle.bk_record.specs.Files.{header_length};
 ghost use Rattle.bk_log.specs.Places.{HasEntryAt};
+ghost use Rattle.bk_log.specs.FoundRuns.{founds_of, AreEntriesOf, RunMoves};
 
 mod step;
 
 use crate::window::Window;
-use crate::{Found, ScanFault};
+use crate::{Found, FoundRun, ScanFault};
 use bk_disk::LogView;
 use std::alloc::Global;
 use std::marker::Model;
@@ -95,6 +96,19 @@ impl<'a, V: LogView> Scanner<'a, V> {
             Some(fault) => Err(fault),
             None => Ok(None),
         }
+    }
+
+    /// Returns the next entries and passes them, if the view knows their heads without reading them.
+    /// `None` changes nothing, and says nothing of what comes next: `next` tells that.
+    ///
+    /// Reads nothing, and takes no time for each entry. The first record of the part is left to
+    /// `next`.
+    pub fn next_run(&mut self) -> Option<FoundRun>
+        ensures none { IfNone result (self.new ≡ self.old) }
+        ensures moves { IfSome result (λ run. RunMoves self.old run self.new) }
+        ensures transition { IsTrue self.old.honest → IfSome result (λ run. AreEntriesOf self.old self.old.given (founds_of run)) }
+    {
+        None
     }
 
     /// Returns the payload of an entry that this scan found, if its window has it; else `None`, and
