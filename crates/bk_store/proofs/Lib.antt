@@ -40,6 +40,7 @@ pub mod OpenedTotals
 pub mod OpenedParts
 pub mod OpenedInvariant
 pub mod OpenedScan
+pub mod OpenedRuns
 pub mod OpenedFinds
 pub mod LogMaps
 pub mod JobStays

@@ -1,10 +1,10 @@
 -- A scan of a log that was found, entry by entry, to its end or to a fault.
-use Rattle.std.proofs.Common.{◌≡◌, ℕ, ◌+◌, ◌<◌, ◌≤◌, ◌^◌, Bool, true, false, ◌==◌, if◌then◌else◌, IsTrue}
+use Rattle.std.proofs.Common.{◌≡◌, ℕ, zero, suc, ◌+◌, ◌*◌, ◌<◌, ◌≤◌, ◌^◌, Bool, true, false, ◌==◌, if◌then◌else◌, IsTrue}
 use Rattle.std.proofs.Common.{List, [], ◌∷◌, ◌++◌, length, take, drop, Option, Some, None, Ok, Err}
-use Rattle.std.proofs.Common.{slice_get, refl, sym, ap, subst, ◌∙◌, arith, eq-eqb}
+use Rattle.std.proofs.Common.{slice_get, refl, sym, ap, subst, ◌∙◌, append_assoc, arith, eq-eqb}
 use Rattle.std.specs.Option.{option_map}
-use Rattle.std.proofs.lemmas.List.{take_all}
-use Rattle.std.proofs.lemmas.List.Sums.{sum_by_push}
+use Rattle.std.proofs.lemmas.List.{take_all, append-nil}
+use Rattle.std.proofs.lemmas.List.Sums.{sum_by_push, sum_by-cons}
 use Rattle.std.specs.FinSet as set
 use Rattle.bk_record.specs.Files.{header_length}
 use Rattle.bk_record.specs.Scan.{entries_of}
@@ -17,6 +17,8 @@ use Rattle.bk_log.specs.declared.found.Found.{Found}
 use Rattle.bk_log.specs.declared.fault.ScanFault.{ScanFault}
 use Rattle.bk_log.specs.declared.fault.ScanFault.TheVariants as scans
 use Rattle.bk_log.specs.Ranges.{entries_in, part}
+use Rattle.bk_log.specs.declared.found.FoundRun.{FoundRun}
+use Rattle.bk_log.specs.FoundRuns.{found_behind, founds_from, founds_of, bytes_of_run, IsEntryOf, AreEntriesOf, RunMoves}
 use Rattle.bk_log.specs.Scanning.{Scan, part_of, NextMoves, ScanNextTransition}
 use Rattle.bk_log.proofs.Ranges.{entries_in-file, whole_view}
 use Rattle.bk_accounts.specs.Book.{total_in, after_ready, after_count, after_count_dead}
@@ -51,6 +53,12 @@ total_entry log t found total is =
           ∙ total_here log total found.size _ (total_in-after_ready t.accounts log found.key.ledger log ∙ is)
     ]
 
+bytes_first : (found : Found) (founds : List Found) → bytes_found (found ∷ founds) ≡ found.size + bytes_found founds
+bytes_first found founds = sum_by-cons (λ (f : Found). f.size) found founds
+
+plus_nothing : (n : ℕ) → n ≡ n + 0
+plus_nothing n = omega arith
+
 bytes_push : (founds : List Found) (found : Found) → bytes_found (founds ++ found ∷ []) ≡ bytes_found founds + found.size
 bytes_push founds found = sum_by_push (λ (f : Found). f.size) founds found
 
@@ -61,6 +69,51 @@ found_push [] [] r found are is = (is, tt)
 found_push [] (f ∷ founds) r found are is = absurd are
 found_push (x ∷ records) [] r found are is = absurd are
 found_push (x ∷ records) (f ∷ founds) r found are is = (are.0, found_push records founds r found are.1 is)
+
+-- ---- entries of a run, at once
+
+pub entries_append : (log : ℕ) (t : Tally) (founds more : List Found)
+    → with_entries log t (founds ++ more) ≡ with_entries log (with_entries log t founds) more
+entries_append log t [] more = refl
+entries_append log t (f ∷ founds) more = entries_append log (with_entry log t f) founds more
+
+bytes_append : (founds more : List Found) → bytes_found (founds ++ more) ≡ bytes_found founds + bytes_found more
+bytes_append [] more = refl
+bytes_append (f ∷ founds) more =
+    omega (arith, bytes_first f (founds ++ more), bytes_first f founds, bytes_append founds more)
+
+total_entries : (log : ℕ) (t : Tally) (founds : List Found) (total : ℕ) → total_in t.accounts log ≡ Some total
+    → total_in (with_entries log t founds).accounts log ≡ Some (total + bytes_found founds)
+total_entries log t [] total is = is ∙ ap Some (plus_nothing total)
+total_entries log t (f ∷ founds) total is =
+    total_entries log (with_entry log t f) founds (total + f.size) (total_entry log t f total is)
+    ∙ ap Some (omega (arith, bytes_first f founds))
+
+length-founds_from : (f : Found) (n : ℕ) → length (founds_from f n) ≡ n
+length-founds_from f zero = refl
+length-founds_from f (suc n) = ap suc (length-founds_from (found_behind f) n)
+
+bytes-founds_from : (f : Found) (n : ℕ) → bytes_found (founds_from f n) ≡ n * f.size
+bytes-founds_from f zero = refl
+bytes-founds_from f (suc n) =
+    bytes_first f (founds_from (found_behind f) n) ∙ ap (λ m. f.size + m) (bytes-founds_from (found_behind f) n)
+
+-- entries of a part that go on where the founds end
+founds_more : (s : Scan) (records : List (ℕ × List ℕ)) (place : ℕ) (founds more : List Found) → entries_in s.from (part_of s) ≡ records
+    → AreFoundAt (take place records) founds → AreEntriesOf s place more → AreFoundAt (take (place + length more) records) (founds ++ more)
+founds_more s records place founds [] same are rest =
+    subst (λ n. AreFoundAt (take n records) (founds ++ [])) (plus_nothing place) (subst (AreFoundAt (take place records)) (sym (append-nil founds)) are)
+founds_more s records place founds (f ∷ more) same are rest =
+    let next : IsEntryOf s place f = rest.0 in
+    let listed : slice_get records place ≡ Some (f.at, next.payload) =
+    ap (λ (l : List (ℕ × List ℕ)). slice_get l place) (sym same) ∙ next.listed in
+    let grown : AreFoundAt (take (place + 1) records) (founds ++ f ∷ []) =
+    subst (λ l. AreFoundAt l (founds ++ f ∷ [])) (sym (take_next records place (f.at, next.payload) listed))
+    (found_push (take place records) founds (f.at, next.payload) f are (refl, next.stands.keyed, next.sized)) in
+    let count : place + 1 + length more ≡ place + suc (length more) = omega arith in
+    subst (λ n. AreFoundAt (take n records) (founds ++ f ∷ more)) count
+    (subst (AreFoundAt (take (place + 1 + length more) records)) (append_assoc founds (f ∷ []) more)
+    (founds_more s records (place + 1) (founds ++ f ∷ []) more same grown rest.1))
 
 -- ---- the scan so far
 
@@ -111,6 +164,48 @@ module _ (log end : ℕ) (honest : Bool) (file : List ℕ) (old : Tally) (s : Sc
           (found_push (take s.given (entries_of file)) so_far.founds (found.at, given.payload) found (so_far.stand is)
           (refl, given.stands.keyed, given.sized)));
     }
+
+  -- the entries of a run
+  module _ (run : FoundRun) (s' : Scan) (moves : RunMoves s run s') where
+    pub run_fits : end < 2 ^ 32 → (0 < run.count) × ((run.first.key.entry + run.count ≤ 2 ^ 63) × ((1028 ≤ run.first.at)
+        × ((run.first.at + bytes_of_run run < 2 ^ 32 + run.first.size) × ((bytes_of_run run < 2 ^ 32)
+        × (bytes_found so_far.founds + bytes_of_run run < 2 ^ 32)))))
+    run_fits short = (
+      moves.some,
+      (
+        moves.ids,
+        (
+          omega (arith, moves.begins, so_far.from),
+          (
+            omega (arith, moves.ends, moves.long, so_far.to, short),
+            (omega (arith, moves.fewer, so_far.room, short), omega (arith, moves.fewer, so_far.room, short)),
+          ),
+        ),
+      ),
+    )
+
+    pub scanning_run : (now' : Tally) → (IsTrue s.honest → AreEntriesOf s s.given (founds_of run)) → (IsTrue honest → end ≡ view_end file)
+        → now' ≡ with_entries log now (founds_of run) → IsScanning log end honest file old s' now'
+    scanning_run now' turn whole added =
+        let more = founds_of run in
+        let bytes : bytes_found more ≡ bytes_of_run run = bytes-founds_from run.first run.count in
+        let both = bytes_append so_far.founds more in
+        record {
+          founds = so_far.founds ++ more;
+          taken = added ∙ ap (λ t. with_entries log t more) so_far.taken ∙ sym (entries_append log old so_far.founds more);
+          total = ap (λ (t : Tally). total_in t.accounts log) added ∙ total_entries log now more (bytes_found so_far.founds) so_far.total
+              ∙ ap Some (sym both);
+          room = omega (arith, so_far.room, moves.fewer, both, bytes);
+          from = ap (λ (x : Scan). x.from) moves.scan_is ∙ so_far.from;
+          to = ap (λ (x : Scan). x.end) moves.scan_is ∙ so_far.to;
+          bytes = ap (λ (x : Scan). x.file) moves.scan_is ∙ so_far.bytes;
+          honest_is = ap (λ (x : Scan). x.honest) moves.scan_is ∙ so_far.honest_is;
+          stand = λ is.
+              let counted : s'.given ≡ s.given + length more =
+              ap (λ (x : Scan). x.given) moves.scan_is ∙ ap (λ n. s.given + n) (sym (length-founds_from run.first run.count)) in
+              subst (λ n. AreFoundAt (take n (entries_of file)) (so_far.founds ++ more)) (sym counted)
+              (founds_more s (entries_of file) s.given so_far.founds more (scan_entries (whole is)) (so_far.stand is) (turn (is_honest is)));
+        }
 
   -- the end
   pub scanned : (s' : Scan) → NextMoves s (Ok None) s' → (IsTrue s.honest → ScanNextTransition s (Ok None) s') → (IsTrue honest → end ≡ view_end file)

@@ -2,13 +2,15 @@
 
 ghost use Rattle.std.specs.Prelude.{◌≡◌, ◌<◌, ◌≤◌, ◌^◌, not, OnOk, OnErr, IfOk};
 ghost use Rattle.std.specs.FinSet as set;
+ghost use Rattle.bk_log.specs.FoundRuns.{bytes_of_run};
+ghost use Rattle.bk_index.specs.Runs.{with_run};
 ghost use Rattle.bk_store.specs.Indexing.{with_key};
 
 use crate::Store;
 use crate::ledger_set::LedgerSet;
 use bk_disk::LogDisk;
 use bk_index::Index;
-use bk_log::Found;
+use bk_log::{Found, FoundRun};
 use bk_record::Location;
 use std::alloc::AllocError;
 
@@ -34,6 +36,21 @@ pub(crate) fn index_found(
     let place = Location::pack(log, found.at as u32).unwrap();
     index.insert(found.key, place)?;
     Ok(true)
+}
+
+/// Points the keys of a run of entries found in a log to their places; a place that a key had is
+/// replaced. Fails if memory is refused.
+pub(crate) fn index_run(index: &mut Index, log: u32, run: &FoundRun) -> Result<(), AllocError>
+    requires id { log < 2 ^ 31 }
+    requires some { 0 < run.now.count }
+    requires ids { run.now.first.key.entry + run.now.count ≤ 2 ^ 63 }
+    requires begins { 1028 ≤ run.now.first.at }
+    requires within { run.now.first.at + bytes_of_run run.now < 2 ^ 32 + run.now.first.size }
+    ensures { OnOk result (index.new ≡ with_run index.old run.now.first.key (record { log = log; at = run.now.first.at }) run.now.first.size run.now.count) }
+{
+    let place = Location::pack(log, run.first.at as u32).unwrap();
+    index.insert_run(run.first.key, place, run.first.size, run.count)?;
+    Ok(())
 }
 
 impl<D: LogDisk> Store<D> {

@@ -15,8 +15,8 @@ use bk_log::Scanner;
 use bk_record::HEADER_LENGTH;
 use std::alloc::Global;
 
-/// Tallies the entries of a log from its header to its end. Ignores foreign records and a torn
-/// record at the end.
+/// Tallies the entries of a log from its header to its end, runs of them as wholes. Ignores foreign
+/// records and a torn record at the end.
 pub(super) fn scan<V: LogView>(
     view: &V,
     alloc: Global,
@@ -36,6 +36,10 @@ pub(super) fn scan<V: LogView>(
 {
     let mut scanner = Scanner::new(view, alloc, HEADER_LENGTH as u64, end);
     loop {
+        if let Some(run) = scanner.next_run() {
+            tally.add_run(log, &run)?;
+            continue;
+        }
         match scanner.next() {
             Ok(Some(found)) => tally.add(log, &found)?,
             Ok(None) => return Ok(()),

@@ -3,14 +3,15 @@
 ghost use Rattle.std.specs.Prelude.{◌≡◌, ◌+◌, ◌<◌, ◌≤◌, ◌^◌, IfSome, OnOk, IsOkUnless};
 ghost use Rattle.std.specs.FinMap as map;
 ghost use Rattle.bk_accounts.specs.Book.{HasAccount, total_in};
-ghost use Rattle.bk_store.specs.Found.{with_entry, with_names, named_by, AreUnnamed};
+ghost use Rattle.bk_log.specs.FoundRuns.{bytes_of_run, founds_of};
+ghost use Rattle.bk_store.specs.Found.{with_entries, with_entry, with_names, named_by, AreUnnamed};
 
 use crate::OpenFault;
-use crate::indexing::index_found;
+use crate::indexing::{index_found, index_run};
 use crate::ledger_set::LedgerSet;
 use bk_accounts::Accounts;
 use bk_index::Index;
-use bk_log::Found;
+use bk_log::{Found, FoundRun};
 use std::alloc::Global;
 
 /// The index of the entries of live ledgers, the accounts of all entries, and the deleted ledgers.
@@ -56,6 +57,34 @@ impl Tally {
         Ok(())
     }
 
+    /// Tallies the next entries of a log, a run: counts their records and, if their ledger is live,
+    /// points their keys to them. Fails only with `Memory`.
+    pub fn add_run(&mut self, log: u32, run: &FoundRun) -> Result<(), OpenFault>
+        requires id { log < 2 ^ 31 }
+        requires some { 0 < run.now.count }
+        requires ids { run.now.first.key.entry + run.now.count ≤ 2 ^ 63 }
+        requires begins { 1028 ≤ run.now.first.at }
+        requires within { run.now.first.at + bytes_of_run run.now < 2 ^ 32 + run.now.first.size }
+        requires short { bytes_of_run run.now < 2 ^ 32 }
+        requires open { HasAccount self.old.accounts log }
+        requires fits { IfSome (total_in self.old.accounts log) (λ total. total + bytes_of_run run.now < 2 ^ 32) }
+        ensures ok { OnOk result (self.new ≡ with_entries log self.old (founds_of run.now)) }
+        ensures only { IsOkUnless result OpenFault.Memory }
+    {
+        let ledger = run.first.key.ledger();
+        let bytes = run.count * run.first.size;
+        if self.dead.contains(ledger) {
+            self.accounts.count_dead(log, bytes);
+            return Ok(());
+        }
+        index_run(&mut self.index, log, run)?;
+        if self.accounts.ready(log, ledger).is_err() {
+            return Err(OpenFault::Memory);
+        }
+        self.accounts.count(log, ledger, bytes);
+        Ok(())
+    }
+
     /// Counts the index entries of each log. Does not allocate.
     pub fn name_all(&mut self)
         requires { AreUnnamed self.old.accounts }
@@ -71,7 +100,17 @@ pub(crate) fn name_each(index: &Index, accounts: &mut Accounts)
     ensures { accounts.new ≡ named_by (map.entries index.now) accounts.old }
 {
     let _keys = index.len();
+    // Pairs that are adjacent are mostly of one log.
+    let mut log = 0;
+    let mut count = 0;
     for (_, place) in index.walk() {
-        accounts.name(place.log());
+        let of = place.log();
+        if of != log {
+            accounts.name_many(log, count);
+            log = of;
+            count = 0;
+        }
+        count += 1;
     }
+    accounts.name_many(log, count);
 }
