@@ -55,9 +55,9 @@ module _ (log : ℕ) (dead : Ledgers) (ledger : ℕ) where
     entries_live : (n : ℕ) (index : Places) (book : Book) (bytes : ℕ) (f : Found) → f.key.ledger ≡ ledger
         → with_entries log (counted index book bytes) (founds_from f n)
         ≡ counted (with_run index f.key (place_in log f) f.size n) book (bytes + n * f.size)
-    entries_live zero index book bytes f same = let none : bytes ≡ bytes + 0 = omega arith in ap (counted index book) none
+    entries_live zero index book bytes f same = let none : bytes ≡ bytes + 0 * f.size = omega arith in ap (counted index book) none
     entries_live (suc n) index book bytes f same =
-        let count : bytes + f.size + n * f.size ≡ bytes + (f.size + n * f.size) = omega arith in
+        let count : bytes + f.size + n * f.size ≡ bytes + suc n * f.size = omega arith in
         let first : with_entry log (counted index book bytes) f ≡ counted (finite.insert index f.key (place_in log f)) book (bytes + f.size) =
         entry_live index (after_count (after_ready book log ledger) log ledger bytes) f same
         ∙ ap (λ (b : Book). record { index = finite.insert index f.key (place_in log f); accounts = b; dead = dead })
@@ -82,10 +82,10 @@ module _ (log : ℕ) (dead : Ledgers) (ledger : ℕ) where
         → with_entries log (record { index = index; accounts = after_count_dead book log bytes; dead = dead }) (founds_from f n)
         ≡ record { index = index; accounts = after_count_dead book log (bytes + n * f.size); dead = dead }
     entries_dead zero index book bytes f same =
-        let none : bytes ≡ bytes + 0 = omega arith in
+        let none : bytes ≡ bytes + 0 * f.size = omega arith in
         ap (λ (b : ℕ). record { index = index; accounts = after_count_dead book log b; dead = dead }) none
     entries_dead (suc n) index book bytes f same =
-        let count : bytes + f.size + n * f.size ≡ bytes + (f.size + n * f.size) = omega arith in
+        let count : bytes + f.size + n * f.size ≡ bytes + suc n * f.size = omega arith in
         let first : with_entry log (record { index = index; accounts = after_count_dead book log bytes; dead = dead }) f
         ≡ record { index = index; accounts = after_count_dead book log (bytes + f.size); dead = dead } =
         entry_dead index (after_count_dead book log bytes) f same

@@ -94,9 +94,10 @@ length-founds_from f zero = refl
 length-founds_from f (suc n) = ap suc (length-founds_from (found_behind f) n)
 
 bytes-founds_from : (f : Found) (n : ℕ) → bytes_found (founds_from f n) ≡ n * f.size
-bytes-founds_from f zero = refl
+bytes-founds_from f zero = omega arith
 bytes-founds_from f (suc n) =
-    bytes_first f (founds_from (found_behind f) n) ∙ ap (λ m. f.size + m) (bytes-founds_from (found_behind f) n)
+    let more : f.size + n * f.size ≡ suc n * f.size = omega arith in
+    bytes_first f (founds_from (found_behind f) n) ∙ ap (λ m. f.size + m) (bytes-founds_from (found_behind f) n) ∙ more
 
 -- entries of a part that go on where the founds end
 founds_more : (s : Scan) (records : List (ℕ × List ℕ)) (place : ℕ) (founds more : List Found) → entries_in s.from (part_of s) ≡ records
