@@ -11,7 +11,7 @@ use Rattle.bk_log.specs.declared.found.Found.{Found}
 use Rattle.bk_log.specs.FoundRuns.{found_behind, founds_from}
 use Rattle.bk_index.specs.Runs.{with_run}
 use Rattle.bk_accounts.specs.Book.{Book, after_ready, after_count, after_count_dead}
-use Rattle.bk_accounts.proofs.BookLaws.{counts_add, counts_dead_add}
+use Rattle.bk_accounts.proofs.ManyCalls.{counts_add, counts_dead_add}
 use Rattle.bk_store.specs.Found.{with_entry, with_entries}
 use Rattle.bk_store.specs.declared.open.tally.Tally.{Tally}
 
