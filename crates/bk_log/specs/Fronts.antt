@@ -26,6 +26,8 @@ pub record HasWholeFirst (left : ℕ) (run : RecordRun) : Type 0 where
   pub long : 20 ≤ run.size
   pub legal : run.size < 2 ^ 31 + 4
   pub within : run.size ≤ left
+  pub ledger : run.first.ledger < 2 ^ 63
+  pub entry : run.first.entry < 2 ^ 63
 
 -- all records of a run have this size in bytes and are within `left` bytes, each with an entry id
 -- below 2 ^ 63

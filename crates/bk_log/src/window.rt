@@ -142,10 +142,15 @@ impl<'a, V: LogView> Window<'a, V> {
         ensures value { IsTrue self.now.honest → IfSome result (IsRunAt self.now.bytes self.now.at) }
     {
         let run = self.view.lend_run(self.at)?;
+        prove!(run.first.ledger() < 1 << 63);
+        prove!(run.first.entry() < 1 << 63);
         if run.count == 0 || run.size < 4 || u64::from(run.size) > left {
             return None;
         }
-        is_payload_length(run.size - 4).then_some(run)
+        if !is_payload_length(run.size - 4) {
+            return None;
+        }
+        Some(run)
     }
 
     /// Same as `front`, for a head that has to be read.
