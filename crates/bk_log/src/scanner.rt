@@ -9,6 +9,7 @@ ghost use Rattle.bk_log.specs.FoundRuns.{founds_of, AreEntriesOf, RunMoves};
 
 mod step;
 
+use crate::runs::size_of_run;
 use crate::window::Window;
 use crate::{Found, FoundRun, ScanFault};
 use bk_disk::LogView;
@@ -108,7 +109,24 @@ impl<'a, V: LogView> Scanner<'a, V> {
         ensures moves { IfSome result (λ run. RunMoves self.old run self.new) }
         ensures transition { IsTrue self.old.honest → IfSome result (λ run. AreEntriesOf self.old self.old.given (founds_of run)) }
     {
-        None
+        if !self.is_going() || !self.window.has_room() {
+            return None;
+        }
+        let at = self.window.at();
+        let left = self.end - at;
+        let run = self.window.run(left)?;
+        let size = size_of_run(&run, left)?;
+        self.window.skip(size);
+        self.given += u64::from(run.count);
+        let first = Found {
+            key: run.first,
+            at: at + 4,
+            size: run.size,
+        };
+        Some(FoundRun {
+            first,
+            count: run.count,
+        })
     }
 
     /// Returns the payload of an entry that this scan found, if its window has it; else `None`, and
