@@ -72,7 +72,7 @@ after_count_dead book log size = book_with book log (with_dead_size size)
 abbrev pub after_name : Book → ℕ → Book
 after_name book log = book_with book log with_name
 
--- the effect of so many calls of `name`
+-- the effect of `count` calls of `name`
 abbrev pub after_names : Book → ℕ → ℕ → Book
 after_names book log count = book_with book log (with_names count)
 

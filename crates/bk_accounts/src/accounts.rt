@@ -140,8 +140,8 @@ impl Accounts {
         }
     }
 
-    /// Counts `count` more index entries that point into the log, as so many calls of `name` do. Does
-    /// nothing if the log is not open. Does not allocate.
+    /// Counts `count` more index entries that point into the log, as that number of calls of `name`
+    /// does. Does nothing if the log is not open. Does not allocate.
     ///
     /// Requires a number of names below 2^64.
     pub fn name_many(&mut self, log: u32, count: u64)

@@ -128,7 +128,7 @@ impl LogAccount {
         self.named += 1;
     }
 
-    /// Counts so many more index entries.
+    /// Counts `count` more index entries.
     pub(crate) fn name_many(&mut self, count: u64)
         requires { self.old.named + count < 2 ^ 64 }
         ensures { self.new ≡ with_names count self.old }

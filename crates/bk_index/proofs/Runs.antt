@@ -7,7 +7,7 @@ use Rattle.bk_record.specs.Location.{Place}
 use Rattle.bk_record.specs.Keyed.{Places}
 use Rattle.bk_index.specs.Runs.{key_behind, place_behind, with_run}
 
--- key so many entries behind the first, and its place
+-- the key `done` entries behind the first, and its place
 abbrev pub key_of_run : EntryKey → ℕ → EntryKey
 key_of_run key done = record { ledger = key.ledger; entry = key.entry + done }
 

@@ -26,9 +26,13 @@ live_run log t f n = record t {
   accounts = after_count (after_ready t.accounts log f.key.ledger) log f.key.ledger (n * f.size);
 }
 
+-- the accounts after so many bytes of deleted ledgers
+abbrev dead_after : ℕ → Tally → ℕ → Tally
+dead_after log t bytes = record t { accounts = after_count_dead t.accounts log bytes }
+
 -- the accounts after a run of a deleted ledger
 abbrev pub dead_run : ℕ → Tally → Found → ℕ → Tally
-dead_run log t f n = record t { accounts = after_count_dead t.accounts log (n * f.size) }
+dead_run log t f n = dead_after log t (n * f.size)
 
 module _ (log : ℕ) (dead : Ledgers) (ledger : ℕ) where
   abbrev counted : Places → Book → ℕ → Tally
@@ -98,14 +102,20 @@ module _ (log : ℕ) (dead : Ledgers) (ledger : ℕ) where
 pub run_live : (log : ℕ) (t : Tally) (f : Found) (n : ℕ) → 0 < n → set.contains t.dead f.key.ledger ≡ false
     → live_run log t f n ≡ with_entries log t (founds_from f n)
 run_live log t f zero some alive = absurd (omega arith)
-run_live log t f (suc n) some alive = sym
+run_live log t f (suc n) some alive =
+    let count : f.size + n * f.size ≡ suc n * f.size = omega arith in
+    sym
     (ap (λ (u : Tally). with_entries log u (founds_from (found_behind f) n)) (entry_live log t.dead f.key.ledger alive t.index t.accounts f refl)
-    ∙ entries_live log t.dead f.key.ledger alive n (finite.insert t.index f.key (place_in log f)) t.accounts f.size (found_behind f) refl)
+    ∙ entries_live log t.dead f.key.ledger alive n (finite.insert t.index f.key (place_in log f)) t.accounts f.size (found_behind f) refl
+    ∙ ap (counted log t.dead f.key.ledger (with_run t.index f.key (place_in log f) f.size (suc n)) t.accounts) count)
 
 -- a run of a deleted ledger
 pub run_dead : (log : ℕ) (t : Tally) (f : Found) (n : ℕ) → 0 < n → set.contains t.dead f.key.ledger ≡ true
     → dead_run log t f n ≡ with_entries log t (founds_from f n)
 run_dead log t f zero some gone = absurd (omega arith)
-run_dead log t f (suc n) some gone = sym
+run_dead log t f (suc n) some gone =
+    let count : f.size + n * f.size ≡ suc n * f.size = omega arith in
+    sym
     (ap (λ (u : Tally). with_entries log u (founds_from (found_behind f) n)) (entry_dead log t.dead f.key.ledger gone t.index t.accounts f refl)
-    ∙ entries_dead log t.dead f.key.ledger gone n t.index t.accounts f.size (found_behind f) refl)
+    ∙ entries_dead log t.dead f.key.ledger gone n t.index t.accounts f.size (found_behind f) refl
+    ∙ ap (λ (b : ℕ). dead_after log t b) count)

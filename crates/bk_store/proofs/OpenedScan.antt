@@ -56,6 +56,9 @@ total_entry log t found total is =
 bytes_first : (found : Found) (founds : List Found) → bytes_found (found ∷ founds) ≡ found.size + bytes_found founds
 bytes_first found founds = sum_by-cons (λ (f : Found). f.size) found founds
 
+nothing_plus : (n : ℕ) → n ≡ 0 + n
+nothing_plus n = omega arith
+
 plus_nothing : (n : ℕ) → n ≡ n + 0
 plus_nothing n = omega arith
 
@@ -78,7 +81,7 @@ entries_append log t [] more = refl
 entries_append log t (f ∷ founds) more = entries_append log (with_entry log t f) founds more
 
 bytes_append : (founds more : List Found) → bytes_found (founds ++ more) ≡ bytes_found founds + bytes_found more
-bytes_append [] more = refl
+bytes_append [] more = nothing_plus (bytes_found more)
 bytes_append (f ∷ founds) more =
     omega (arith, bytes_first f (founds ++ more), bytes_first f founds, bytes_append founds more)
 
