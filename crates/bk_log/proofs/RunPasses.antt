@@ -83,8 +83,7 @@ entry_passed s at given foreign found place headed within passed (payload, (begi
     let entry = foreign_some payload found.key is in
     let none : foreign + 0 ≡ foreign = omega arith in
     let more = passed_more s.from at given foreign (part_of s) (part s.file at s.end) _ payload false passed begins
-    (behind_record s.file payload at s.end begins (omega (arith, sized))) entry in
-    (
+    (behind_record s.file payload at s.end begins (omega (arith, sized))) entry in (
       record {
         payload = payload;
         listed = subst (λ n. slice_get (entries_in s.from (part_of s)) given ≡ Some (n, payload)) (sym place)
@@ -106,8 +105,7 @@ entries_passed : (s : Scan) (at given foreign count : ℕ) (found : Found) → f
     × IsPassed s.from (part_of s) (at + count * found.size) (part s.file (at + count * found.size) s.end) (given + count) foreign
 entries_passed s at given foreign zero found place headed within passed fronts =
     let here : at ≡ at + 0 * found.size = omega arith in
-    let same : given ≡ given + 0 = omega arith in
-    (
+    let same : given ≡ given + 0 = omega arith in (
       tt,
       subst (λ n. IsPassed s.from (part_of s) n (part s.file n s.end) (given + 0) foreign) here
           (subst (λ n. IsPassed s.from (part_of s) at (part s.file at s.end) n foreign) same passed),
@@ -124,14 +122,13 @@ entries_passed s at given foreign (suc count) found place headed within passed f
     let one = entry_passed s at given foreign found place headed (omega (arith, sum)) passed front in
     let later = entries_passed s (at + size) (given + 1) foreign count (found_behind found) (omega arith) (omega arith) (omega (arith, sum)) one.1
     (λ k less.
-        let step : at + suc k * size ≡ at + size + k * size = omega (arith, suc-mul k size) in
-        let id : found.key.entry + suc k ≡ found.key.entry + 1 + k = omega arith in
-        subst (λ n. IsFront (part s.file n s.end) (Record size (Some (record { ledger = found.key.ledger; entry = found.key.entry + 1 + k })))) step
-        (subst (λ n. IsFront (part s.file (at + suc k * size) s.end) (Record size (Some (record { ledger = found.key.ledger; entry = n })))) id
-        (fronts (suc k) (omega arith)))) in
+    let step : at + suc k * size ≡ at + size + k * size = omega (arith, suc-mul k size) in
+    let id : found.key.entry + suc k ≡ found.key.entry + 1 + k = omega arith in
+    subst (λ n. IsFront (part s.file n s.end) (Record size (Some (record { ledger = found.key.ledger; entry = found.key.entry + 1 + k })))) step
+    (subst (λ n. IsFront (part s.file (at + suc k * size) s.end) (Record size (Some (record { ledger = found.key.ledger; entry = n })))) id
+    (fronts (suc k) (omega arith)))) in
     let end : at + size + count * size ≡ at + suc count * size = omega (arith, sum) in
-    let number : given + 1 + count ≡ given + suc count = omega arith in
-    (
+    let number : given + 1 + count ≡ given + suc count = omega arith in (
       (one.0, later.0),
       subst (λ n. IsPassed s.from (part_of s) n (part s.file n s.end) (given + suc count) foreign) end
           (subst (λ n. IsPassed s.from (part_of s) (at + size + count * size) (part s.file (at + size + count * size) s.end) n foreign) number later.1),
@@ -156,13 +153,13 @@ run_passed window from end given foreign torn size ended fault run kept h shown 
     (record { key = run.first; at = at + 4; size = run.size }) refl (omega (arith, kept.headed, kept.placed.begun))
     (omega (arith, kept.placed.within, all.sum, all.within)) (kept.scanned h).passed
     (λ place less.
-        let here = at + place * run.size in
-        let more : suc place * run.size ≤ run.count * run.size = mul-le-mul_right run.size less in
-        let last : here + run.size ≤ end = omega (arith, more, suc-mul place run.size, kept.placed.within, all.sum, all.within) in
-        let view : IsInView window.bytes here (end - here) =
-        (omega (arith, kept.headed, kept.placed.begun), omega (arith, kept.in_view h, last)) in
-        front_in_run window.bytes here (end - here) run place (shown place less) whole.long whole.legal whole.ledger (omega (arith, all.ids, less))
-        (omega (arith, last, length-left window.bytes here (end - here) view)))
+    let here = at + place * run.size in
+    let more : suc place * run.size ≤ run.count * run.size = mul-le-mul_right run.size less in
+    let last : here + run.size ≤ end = omega (arith, more, suc-mul place run.size, kept.placed.within, all.sum, all.within) in
+    let view : IsInView window.bytes here (end - here) =
+    (omega (arith, kept.headed, kept.placed.begun), omega (arith, kept.in_view h, last)) in
+    front_in_run window.bytes here (end - here) run place (shown place less) whole.long whole.legal whole.ledger (omega (arith, all.ids, less))
+    (omega (arith, last, length-left window.bytes here (end - here) view)))
 
 -- invariant after a run
 pub kept_run : (window : Ahead) (from end given foreign torn size ready : ℕ) (ended : Bool) (fault : Option ScanFault) (run : RecordRun)

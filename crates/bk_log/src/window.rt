@@ -28,7 +28,8 @@ const FIRST: u64 = 512;
 /// bytes left then. If a longer buffer cannot be allocated, the old one is used.
 ///
 /// A view that has its bytes in memory lends them, from `lent_from` on; then only a head that lies
-/// in two blocks is copied.
+/// in two blocks is copied. A view may also know heads without reading them; a record whose head
+/// was known is not read, and is in the window only if it was read for a record before it.
 #[derive(Drop)]
 pub(crate) struct Window<'a, V: LogView> {
     view: &'a V,
@@ -105,8 +106,8 @@ impl<'a, V: LogView> Window<'a, V> {
     }
 
     /// Parses the start of the `left` bytes from the position. If its head is neither lent nor in
-    /// the window, reads the head alone, and a window only for a record and if the view lends
-    /// nothing. Errors: `Disk` if the view is not sound, `Memory` at the first record, `Odd`.
+    /// the window nor known, reads the head alone, and a window only for a record and if the view
+    /// lends nothing. Errors: `Disk` if the view is not sound, `Memory` at the first record, `Odd`.
     pub(crate) fn front(&mut self, left: u64) -> Result<Front, ScanFault>
         requires { IsTrue self.old.honest → IsInView self.old.bytes self.old.at left }
         ensures same { self.new ≡ record self.old { ready = self.new.ready; room = self.new.room } }
@@ -135,8 +136,8 @@ impl<'a, V: LogView> Window<'a, V> {
         self.read_front(left)
     }
 
-    /// Returns records at the position whose heads the view knows without reading them, if the
-    /// first of them is whole in the `left` bytes from the position. Reads nothing.
+    /// Returns records at the position whose heads the view knows without reading them, if there
+    /// is one, and its size is legal and at most `left` bytes. Reads nothing.
     pub(crate) fn run(&self, left: u64) -> Option<RecordRun>
         ensures fits { IfSome result (HasWholeFirst left) }
         ensures value { IsTrue self.now.honest → IfSome result (IsRunAt self.now.bytes self.now.at) }
