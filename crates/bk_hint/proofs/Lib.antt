@@ -6,3 +6,4 @@ pub mod Hints
 pub mod Checks
 pub mod Decodings
 pub mod Adding
+pub mod Turning

@@ -5,6 +5,7 @@ use Rattle.std.proofs.lemmas.List.{append-nil, length-append}
 use Rattle.bk_hint.specs.declared.listed.Listed.{Listed}
 use Rattle.bk_hint.specs.declared.head.Head.{Head}
 use Rattle.bk_hint.specs.Entries.{IsLegal, past, AreFrom, last_of, origin, next_of, repeats, first_of, part_of, heads_behind, entries_of, begins, Lists, IsKept}
+use Rattle.bk_hint.specs.Runs.{run_of}
 use Rattle.bk_hint.specs.Noting.{Repeats, Gains}
 use Rattle.bk_hint.specs.Pushing.{CanStand}
 
@@ -35,6 +36,16 @@ part-next last (suc step) heads some low = rw (lt-ltb (suc step) (2 ^ 31) low) r
 pub part-again : (last : Listed) (step : ℕ) (heads : List Head) → 2 ^ 31 ≤ step → part_of last step heads ≡ repeats (step - 2 ^ 31 + 1) last
 part-again last zero heads high = absurd (omega arith)
 part-again last (suc step) heads high = rw (le-ltb (suc step) (2 ^ 31) high) refl
+
+pub run-next : (last : Listed) (step : ℕ) (heads : List Head) → 0 < step → step < 2 ^ 31
+    → run_of last step heads ≡ record { first = next_of last (step + 4); again = 0 } ∷ []
+run-next last zero heads some low = absurd (omega arith)
+run-next last (suc step) heads some low = rw (lt-ltb (suc step) (2 ^ 31) low) refl
+
+pub run-again : (last : Listed) (step : ℕ) (heads : List Head) → 2 ^ 31 ≤ step
+    → run_of last step heads ≡ record { first = next_of last last.size; again = step - 2 ^ 31 } ∷ []
+run-again last zero heads high = absurd (omega arith)
+run-again last (suc step) heads high = rw (le-ltb (suc step) (2 ^ 31) high) refl
 
 pub heads_behind-more : (step : ℕ) (heads : List Head) → 0 < step → heads_behind step heads ≡ heads
 heads_behind-more zero heads some = absurd (omega arith)

@@ -3,8 +3,9 @@ use Rattle.std.proofs.Common.{◌≡◌, ℕ, zero, suc, ◌+◌, ◌-◌, ◌^�
 use Rattle.bk_hint.specs.declared.listed.Listed.{Listed}
 use Rattle.bk_hint.specs.declared.head.Head.{Head}
 use Rattle.bk_hint.specs.Entries.{IsLegal, past, AreFrom, origin, next_of, first_of, entries_of, begins, IsSound}
-use Rattle.bk_hint.specs.Walking.{left_of, CanGoOn, Turns}
-use Rattle.bk_hint.proofs.Steps.{part-next, part-again, heads_behind-more, begins-more}
+use Rattle.bk_hint.specs.Runs.{runs_of}
+use Rattle.bk_hint.specs.Walking.{left_of, CanGoOn, IsFirstRun, Turns}
+use Rattle.bk_hint.proofs.Steps.{part-next, part-again, run-next, run-again, heads_behind-more, begins-more}
 
 -- nothing is left without a step
 pub nothing_left : (last : Listed) (heads : List Head) → left_of last 0 heads [] ≡ []
@@ -51,9 +52,10 @@ goes_on last again heads_now steps next more others behind can fit is =
 
 pub turns : (last : Listed) (heads_now : List Head) (steps : List ℕ) (next : Listed) (more : ℕ) (others : List Head) (behind : List ℕ)
     → CanGoOn last 0 heads_now steps → begins behind ≡ length others
-    → left_of last 0 heads_now steps ≡ next ∷ left_of next more others behind → Turns last heads_now steps next more others behind
-turns last heads_now steps next more others behind can fit is =
-    record { gives = is; goes_on = goes_on last 0 heads_now steps next more others behind can fit is }
+    → left_of last 0 heads_now steps ≡ next ∷ left_of next more others behind → IsFirstRun last heads_now steps next more others behind
+    → Turns last heads_now steps next more others behind
+turns last heads_now steps next more others behind can fit is run =
+    record { gives = is; is_run = run; goes_on = goes_on last 0 heads_now steps next more others behind can fit is }
 
 pub begin_left : (last : Listed) (head : Head) (heads_now : List Head) (steps : List ℕ)
     → left_of last 0 (head ∷ heads_now) (0 ∷ steps) ≡ first_of head ∷ left_of (first_of head) 0 heads_now steps
@@ -73,6 +75,37 @@ again_left last step heads_now steps high =
     let some : 0 < step = omega arith in
     let count : step - 2 ^ 31 + 1 ≡ suc (step - 2 ^ 31) = omega arith in
     rw (part-again last step heads_now high, heads_behind-more step heads_now some, count) refl
+
+-- ---- the run of a step
+
+begin_run : (last : Listed) (head : Head) (heads_now : List Head) (steps : List ℕ) → IsFirstRun last (head ∷ heads_now) (0 ∷ steps) (first_of head) 0 heads_now steps
+unfolding runs_of
+begin_run last head heads_now steps = refl
+
+next_run : (last : Listed) (step : ℕ) (heads_now : List Head) (steps : List ℕ) → 0 < step → step < 2 ^ 31
+    → IsFirstRun last heads_now (step ∷ steps) (next_of last (step + 4)) 0 heads_now steps
+unfolding runs_of
+next_run last step heads_now steps some low =
+    rw (run-next last step heads_now some low, part-next last step heads_now some low, heads_behind-more step heads_now some) refl
+
+again_run : (last : Listed) (step : ℕ) (heads_now : List Head) (steps : List ℕ) → 2 ^ 31 ≤ step
+    → IsFirstRun last heads_now (step ∷ steps) (next_of last last.size) (step - 2 ^ 31) heads_now steps
+unfolding runs_of
+again_run last step heads_now steps high =
+    let some : 0 < step = omega arith in
+    let count : step - 2 ^ 31 + 1 ≡ suc (step - 2 ^ 31) = omega arith in
+    rw (run-again last step heads_now high, part-again last step heads_now high, heads_behind-more step heads_now some, count) refl
+
+-- the same of heads, steps and a first entry that are these
+run_is : (last : Listed) (heads_now heads_are : List Head) (steps steps_are : List ℕ) (next next_are : Listed) (more : ℕ) (others : List Head) (behind : List ℕ)
+    → heads_now ≡ heads_are → steps ≡ steps_are → next ≡ next_are → IsFirstRun last heads_are steps_are next_are more others behind
+    → IsFirstRun last heads_now steps next more others behind
+run_is last heads_now heads_are steps steps_are next next_are more others behind same_heads same_steps same_next run =
+    subst (λ (hs : List Head). IsFirstRun last hs steps next more others behind) (sym same_heads)
+    (subst (λ (ws : List ℕ). IsFirstRun last heads_are ws next more others behind) (sym same_steps)
+    (subst (λ (e : Listed). IsFirstRun last heads_are steps_are e more others behind) (sym same_next) run))
+
+-- ---- a step that is there
 
 pub begins_fit : (step : ℕ) (steps : List ℕ) (heads_now : List Head) → 0 < step → begins (step ∷ steps) ≡ length heads_now → begins steps ≡ length heads_now
 begins_fit step steps heads_now some fit = sym (begins-more step steps some) ∙ fit
@@ -107,6 +140,7 @@ begin_turns last heads_now others steps behind step head next can is first_step 
     let fit : begins behind ≡ length others = begin_fit behind head others (ap begins (sym first) ∙ can.heads_fit ∙ ap length heads_are) in
     turns last heads_now steps next 0 others behind can fit
     (begin_is last heads_now others steps behind step head is first_step heads_are ∙ ap (λ (e : Listed). e ∷ left_of e 0 others behind) (sym next_is))
+    (run_is last heads_now (head ∷ others) steps (0 ∷ behind) next (first_of head) 0 others behind heads_are first next_is (begin_run last head others behind))
 
 -- the entry directly behind is legal
 pub next_id : (last : Listed) (size : ℕ) (from : ℕ) (all entries : List Listed) → AreFrom from all → all ≡ next_of last size ∷ entries → last.key.entry + 1 < 2 ^ 63
@@ -126,6 +160,8 @@ next_turns last heads_now steps behind step next can is some low same =
     let fit : begins behind ≡ length heads_now = begins_fit step behind heads_now some (ap begins (sym is) ∙ can.heads_fit) in
     turns last heads_now steps next 0 heads_now behind can fit
     (next_is last heads_now steps behind step is some low ∙ ap (λ (e : Listed). e ∷ left_of e 0 heads_now behind) (sym same))
+    (run_is last heads_now heads_now steps (step ∷ behind) next (next_of last (step + 4)) 0 heads_now behind refl is same
+    (next_run last step heads_now behind some low))
 
 pub again_turns : (last : Listed) (heads_now : List Head) (steps behind : List ℕ) (step : ℕ) (next : Listed) → CanGoOn last 0 heads_now steps → steps ≡ step ∷ behind
     → 2 ^ 31 ≤ step → next ≡ next_of last last.size → Turns last heads_now steps next (step - 2 ^ 31) heads_now behind
@@ -134,6 +170,8 @@ again_turns last heads_now steps behind step next can is high same =
     let fit : begins behind ≡ length heads_now = begins_fit step behind heads_now some (ap begins (sym is) ∙ can.heads_fit) in
     turns last heads_now steps next (step - 2 ^ 31) heads_now behind can fit
     (again_is last heads_now steps behind step is high ∙ ap (λ (e : Listed). e ∷ left_of e (step - 2 ^ 31) heads_now behind) (sym same))
+    (run_is last heads_now heads_now steps (step ∷ behind) next (next_of last last.size) (step - 2 ^ 31) heads_now behind refl is same
+    (again_run last step heads_now behind high))
 
 -- ---- repetitions that are left
 

@@ -1,4 +1,5 @@
 pub mod Entries
+pub mod Runs
 pub mod Noting
 pub mod Pushing
 pub mod Walking

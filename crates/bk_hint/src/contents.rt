@@ -3,11 +3,12 @@
 ghost use Rattle.std.specs.Prelude.{◌≡◌, ◌+◌, ◌++◌, ◌∷◌, [], ◌↔◌, IsTrue, OnOk, OnErr, IsNone, IfSome, length};
 ghost use Rattle.bk_hint.specs.Entries.{bytes_of, entries_of, last_of, origin, past, AreFrom, IsSound};
 ghost use Rattle.bk_hint.specs.Pushing.{CanStand};
+ghost use Rattle.bk_hint.specs.Runs.{entries_of_runs};
 
 use crate::checking::last_in;
 use crate::head::Head;
 use crate::noting::note;
-use crate::{Entries, Listed};
+use crate::{Entries, Listed, ListedRuns};
 use bk_record::Key;
 use std::alloc::{AllocError, Global};
 use std::marker::Model;
@@ -92,6 +93,15 @@ impl Contents {
         ensures in_order { AreFrom (past origin) self.now }
     {
         Entries::over(&self.heads, &self.steps)
+    }
+
+    /// Returns an iterator over the runs of the entries, in file order. The entries of its runs, one
+    /// after another, are the entries. Takes no time for each entry.
+    pub fn runs(&self) -> ListedRuns<'_>
+        ensures list { entries_of_runs result ≡ self.now }
+        ensures in_order { AreFrom (past origin) self.now }
+    {
+        ListedRuns::over(&self.heads, &self.steps)
     }
 
     /// Returns the number of entries, by a walk over them.

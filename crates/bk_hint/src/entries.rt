@@ -49,10 +49,10 @@ impl<'a> Entries<'a> {
 }
 
 /// An entry, how many more of its size follow it directly, and the heads and steps behind these.
-type Turn<'a> = (Listed, u32, &'a [Head], &'a [u32]);
+pub(crate) type Turn<'a> = (Listed, u32, &'a [Head], &'a [u32]);
 
 /// Returns the first entry of the next step behind `last`, and what is left.
-fn turn<'a>(last: &Listed, heads: &'a [Head], steps: &'a [u32]) -> Option<Turn<'a>>
+pub(crate) fn turn<'a>(last: &Listed, heads: &'a [Head], steps: &'a [u32]) -> Option<Turn<'a>>
     requires { CanGoOn last.now 0 heads.now steps.now }
     ensures { MatchOption result (steps.now ≡ []) (λ t. Turns last.now heads.now steps.now t.0 t.1 t.2.now t.3.now) }
 {

@@ -10,6 +10,7 @@ mod head;
 mod listed;
 mod noting;
 mod reading;
+mod runs;
 mod sums;
 mod writing;
 
@@ -19,5 +20,6 @@ pub use facts::LogFacts;
 pub use fault::HintFault;
 pub use listed::Listed;
 pub use reading::decode;
+pub use runs::{ListedRun, ListedRuns};
 pub use sums::{fits_map, sums_by_ledger};
 pub use writing::encode;

@@ -1,6 +1,7 @@
 //! An entry of a log, as a hint lists it.
 
-ghost use Rattle.std.specs.Prelude.{◌≡◌, ◌+◌, ◌<◌, ◌^◌, ◌↔◌, IsTrue};
+ghost use Rattle.std.specs.Prelude.{◌≡◌, ◌+◌, ◌*◌, ◌<◌, ◌^◌, ◌↔◌, IsTrue};
+ghost use Rattle.bk_hint.specs.Checking.{repeated_by};
 ghost use Rattle.bk_hint.specs.Entries.{next_of, origin, past};
 
 use bk_record::{Key, LAST_ID, LENGTH_FIELD, Location, MAX_LOG_LENGTH, MAX_PAYLOAD, RECORD_HEAD};
@@ -75,6 +76,21 @@ impl Listed {
         ensures { result ≡ next_of self.now self.now.size }
     {
         self.next(self.size)
+    }
+
+    /// Returns the last of so many entries directly behind, each of the same size.
+    #[tactic(auto, using(crate::proofs::Checks::product_below))]
+    pub(crate) fn behind(&self, count: u32) -> Listed
+        requires id { self.now.key.entry + count < 2 ^ 63 }
+        requires room { self.now.at + count * self.now.size < 2 ^ 64 }
+        ensures { result ≡ repeated_by count self.now }
+    {
+        let bytes = u64::from(count) * u64::from(self.size);
+        Listed {
+            key: Key::new(self.key.ledger(), self.key.entry() + u64::from(count)).unwrap(),
+            at: self.at + bytes,
+            size: self.size,
+        }
     }
 
     /// Returns whether the record stands directly behind that of `last`, with the next entry id of
