@@ -1,8 +1,9 @@
 -- The rows of a table: runs of entries, whose records have to be in the log. Read `IsTrueTable` first.
-use Rattle.std.specs.Prelude.{ℕ, ◌-◌, ◌==◌, ◌&&◌, Bool, true, false, List, [], ◌∷◌, ◌++◌, drop}
+use Rattle.std.specs.Prelude.{◌≡◌, ℕ, ◌+◌, ◌-◌, ◌*◌, ◌≤◌, ◌==◌, ◌&&◌, Bool, true, false, List, [], ◌∷◌, ◌++◌, drop, slice_get, Some}
 use Rattle.std.specs.Int.{w32, w64, to_be_bytes}
 use Rattle.std.specs.List.{All}
 use Rattle.bk_disk.specs.Blocks.{HasPrefix}
+use Rattle.bk_disk.specs.declared.record_run.RecordRun.{RecordRun}
 use Rattle.bk_hint.specs.declared.listed.Listed.{Listed}
 use Rattle.bk_hint.specs.declared.runs.ListedRun.{ListedRun}
 use Rattle.bk_hint.specs.Runs.{entries_of_runs}
@@ -34,3 +35,16 @@ are_records file (entry ∷ entries) = is_front (head_of entry) (drop (entry.at 
 -- `IsTrueTable`, as a test
 abbrev pub is_true_table : List ListedRun → List ℕ → Bool
 is_true_table rows bytes = are_records bytes (entries_of_runs rows)
+
+-- The records are those of a run from the one whose payload is at this position on: all of them, or
+-- fewer.
+pub record IsRestOf (row : ListedRun) (payload : ℕ) (run : RecordRun) : Type 0 where
+  pub place : ℕ
+  pub payload_is : payload ≡ row.first.at + place * row.first.size
+  pub first_is : run.first ≡ record { ledger = row.first.key.ledger; entry = row.first.key.entry + place }
+  pub size_is : run.size ≡ row.first.size
+  pub within : place + run.count ≤ row.again + 1
+
+-- the records are those of a row of the table from the one at this position on
+abbrev pub IsRestIn : List ListedRun → ℕ → RecordRun → Type 0
+IsRestIn rows at run = (number : ℕ) × ((row : ListedRun) × ((slice_get rows number ≡ Some row) × IsRestOf row (at + 4) run))

@@ -1,9 +1,8 @@
 //! The records of a log, in memory.
 
-ghost use Rattle.std.specs.Prelude.{◌≡◌, ℕ, List, IfOk, IfSome, length};
-ghost use Rattle.bk_disk.specs.Runs.{IsRunAt};
+ghost use Rattle.std.specs.Prelude.{◌≡◌, IfOk, IfSome, length};
 ghost use Rattle.bk_hint.specs.Runs.{entries_of_runs};
-ghost use Rattle.bk_hint_view.specs.Rows.{IsTrueTable};
+ghost use Rattle.bk_hint_view.specs.Rows.{IsRestIn, IsRestOf};
 
 use bk_disk::RecordRun;
 use bk_hint::{Contents, ListedRun};
@@ -54,7 +53,7 @@ impl Table {
     ///
     /// The number of steps is logarithmic in that of the runs.
     pub fn run_at(&self, at: u64) -> Option<RecordRun>
-        ensures { IfSome result (λ run. (bytes : List ℕ) → IsTrueTable self.now bytes → IsRunAt bytes at run) }
+        ensures { IfSome result (IsRestIn self.now at) }
     {
         let payload = at.checked_add(LENGTH_FIELD as u64)?;
         let behind = self.rows.partition_point(|row| row.first.at <= payload);
@@ -64,21 +63,20 @@ impl Table {
 }
 
 /// Returns the records of a run from the one whose payload is at this position on.
+#[tactic(auto, using(bk_hint::proofs::Checks::product_below))]
 fn rest_of(row: &ListedRun, payload: u64) -> Option<RecordRun>
-    ensures { IfSome result (λ run. IsRestOf row.now payload run) }
+    ensures { IfSome result (IsRestOf row.now payload) }
 {
     let before = payload.checked_sub(row.first.at)?;
     let size = u64::from(row.first.size);
-    if size == 0 || before % size != 0 || before / size > u64::from(row.again) {
+    let place = before.checked_div(size)?;
+    if place > u64::from(row.again) || place * size != before {
         return None;
     }
-    let place = (before / size) as u32;
+    let first = Key::new(row.first.key.ledger(), row.first.key.entry() + place)?;
     Some(RecordRun {
-        first: Key::new(
-            row.first.key.ledger(),
-            row.first.key.entry() + u64::from(place),
-        )?,
-        count: (row.again - place).saturating_add(1),
+        first,
+        count: (row.again - place as u32).saturating_add(1),
         size: row.first.size,
     })
 }
