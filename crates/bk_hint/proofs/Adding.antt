@@ -1,5 +1,5 @@
--- Sums of record sizes by ledger, entry by entry.
-use Rattle.std.proofs.Common.{◌≡◌, ◌↔◌, ◌&&◌, ℕ, zero, suc, ◌+◌, ◌^◌, ◌<◌, ◌≤◌, Bool, true, false, cond, eqb, List, [], ◌∷◌, Option, Some, None, Ordering, Less, Equal, Greater, unwrap_or, refl, sym, ap, subst, ◌∙◌, arith}
+-- Sums of record sizes by ledger, run by run.
+use Rattle.std.proofs.Common.{◌≡◌, ◌↔◌, ◌&&◌, ℕ, zero, suc, ◌+◌, ◌^◌, ◌<◌, ◌≤◌, Bool, true, false, cond, eqb, List, [], ◌∷◌, ◌++◌, Option, Some, None, Ordering, Less, Equal, Greater, unwrap_or, refl, sym, ap, subst, ◌∙◌, arith}
 use Rattle.std.specs.BTreeMap as tree
 use Rattle.std.specs.BTreeMap.{BTreeMap, is_at}
 use Rattle.std.specs.Map.{lookup}
@@ -9,9 +9,12 @@ use Rattle.std.specs.Cmp.Lexicographic.{pointwise}
 use Rattle.std.proofs.lemmas.Bool.{ne_eqb, eq-eqb, eqb-true}
 use Rattle.std.proofs.lemmas.Map.Lookups.{exact_unsigned, btree_map_from_get}
 use Rattle.bk_hint.specs.declared.listed.Listed.{Listed}
-use Rattle.bk_hint.specs.Entries.{past, origin, AreFrom, bytes_of}
+use Rattle.bk_hint.specs.declared.runs.ListedRun.{ListedRun}
+use Rattle.bk_hint.specs.Entries.{past, origin, next_of, repeats, AreFrom, bytes_of}
+use Rattle.bk_hint.specs.Runs.{entries_of_run, entries_of_runs}
 use Rattle.bk_hint.specs.Sums.{bytes_in, sum_of, IsMapOf}
 use Rattle.bk_hint.proofs.Counts.{bytes_below}
+use Rattle.bk_hint.proofs.Runwise.{LegalRuns, legal_first}
 
 -- ---- the order of numbers
 
@@ -29,6 +32,10 @@ at_same k q is = ap is_eq (sym (nat_cmp_is k q Equal is))
 at_is : (k q : ℕ) (b : Bool) → is_at (nat_cmp k) q ≡ b → eqb k q ≡ b
 at_is k q true is = eq-eqb k q (at_true k q is)
 at_is k q false is = ne_eqb k q (λ same. let t : false ≡ true = sym is ∙ at_same k q same in absurd cc)
+
+part_le : (b : Bool) (size : ℕ) → cond b size 0 ≤ size
+part_le true size = omega arith
+part_le false size = omega arith
 
 -- ---- the sums so far
 
@@ -52,43 +59,82 @@ some_sum : (bytes : ℕ) → 0 < bytes → sum_of bytes ≡ Some bytes
 some_sum zero some = absurd (omega arith)
 some_sum (suc bytes) some = refl
 
--- one ledger after one entry more
-record AddsAt (sums now : BTreeMap ℕ ℕ) (rest next all : List Listed) (ledger : ℕ) : Type 0 where
+-- ---- one run more
+
+-- the bytes of a run are those of its ledger
+pub record IsRunOf (owner bytes : ℕ) (rest next : List Listed) : Type 0 where
+  pub some : 0 < bytes
+  pub parts : (ledger : ℕ) → bytes_in rest ledger ≡ cond (eqb owner ledger) bytes 0 + bytes_in next ledger
+
+part_sum : (b : Bool) (first rest : ℕ) → cond b first 0 + cond b rest 0 ≡ cond b (first + rest) 0
+part_sum true first rest = refl
+part_sum false first rest = refl
+
+bytes_in-repeats : (count : ℕ) (last : Listed) (next : List Listed) (ledger : ℕ)
+    → bytes_in (repeats count last ++ next) ledger ≡ cond (eqb last.key.ledger ledger) (bytes_of (repeats count last)) 0 + bytes_in next ledger
+bytes_in-repeats zero last next ledger =
+    let none = part_le (eqb last.key.ledger ledger) 0 in
+    omega arith
+bytes_in-repeats (suc count) last next ledger =
+    let rest = bytes_in-repeats count (next_of last last.size) next ledger in
+    let sum = part_sum (eqb last.key.ledger ledger) last.size (bytes_of (repeats count (next_of last last.size))) in
+    omega arith
+
+pub run_sums : (runs others : List ListedRun) (run : ListedRun) → runs ≡ run ∷ others → LegalRuns runs
+    → IsRunOf run.first.key.ledger (bytes_of (entries_of_run run)) (entries_of_runs runs) (entries_of_runs others)
+run_sums runs others run is left =
+    let behind : List Listed = entries_of_runs others in
+    let legal = (legal_first runs others run is left) in
+    let whole : entries_of_runs runs ≡ run.first ∷ (repeats run.again run.first ++ behind) = ap entries_of_runs is in
+    record {
+      some = omega (arith, legal.least);
+      parts = λ ledger.
+          let all : bytes_in (entries_of_runs runs) ledger ≡ bytes_in (run.first ∷ (repeats run.again run.first ++ behind)) ledger =
+          ap (λ (es : List Listed). bytes_in es ledger) whole in
+          let rest = bytes_in-repeats run.again run.first behind ledger in
+          let sum = part_sum (eqb run.first.key.ledger ledger) run.first.size (bytes_of (repeats run.again run.first)) in
+          omega arith;
+    }
+
+-- one ledger after one run more
+record AddsAt (now : BTreeMap ℕ ℕ) (next all : List Listed) (ledger : ℕ) : Type 0 where
   gets : tree.get nat_cmp now ledger ≡ sum_of (size_at now ledger)
   adds : size_at now ledger + bytes_in next ledger ≡ bytes_in all ledger
 
-adds_at : (sums now : BTreeMap ℕ ℕ) (next all : List Listed) (entry : Listed) (total ledger : ℕ) (b : Bool) → is_at (nat_cmp entry.key.ledger) ledger ≡ b
-    → Adds sums (entry ∷ next) all → total ≡ size_at sums entry.key.ledger + entry.size → 0 < entry.size
-    → tree.get nat_cmp now ledger ≡ cond b (Some total) (tree.get nat_cmp sums ledger) → AddsAt sums now (entry ∷ next) next all ledger
-adds_at sums now next all entry total ledger true at so_far total_is some got =
-    let same : entry.key.ledger ≡ ledger = at_true entry.key.ledger ledger at in
-    let here : eqb entry.key.ledger ledger ≡ true = at_is entry.key.ledger ledger true at in
+adds_at : (sums now : BTreeMap ℕ ℕ) (rest next all : List Listed) (owner bytes total ledger : ℕ) (b : Bool) → is_at (nat_cmp owner) ledger ≡ b
+    → Adds sums rest all → IsRunOf owner bytes rest next → total ≡ size_at sums owner + bytes
+    → tree.get nat_cmp now ledger ≡ cond b (Some total) (tree.get nat_cmp sums ledger) → AddsAt now next all ledger
+adds_at sums now rest next all owner bytes total ledger true at so_far run total_is got =
+    let same : owner ≡ ledger = at_true owner ledger at in
+    let here : eqb owner ledger ≡ true = at_is owner ledger true at in
     let size : size_at now ledger ≡ total = ap (λ (o : Option ℕ). unwrap_or o 0) got in
-    let bytes : (cond (eqb entry.key.ledger ledger) entry.size 0) ≡ entry.size = ap (λ (t : Bool). cond t entry.size 0) here in
-    let before : size_at sums entry.key.ledger ≡ size_at sums ledger = ap (size_at sums) same in
+    let part : (cond (eqb owner ledger) bytes 0) ≡ bytes = ap (λ (t : Bool). cond t bytes 0) here in
+    let before : size_at sums owner ≡ size_at sums ledger = ap (size_at sums) same in
     let adds = so_far.adds ledger in
+    let parts = run.parts ledger in
+    let some = run.some in
     let whole : 0 < total = omega arith in
     record {
       gets = got ∙ sym (some_sum total whole) ∙ ap sum_of (sym size);
       adds = omega arith;
     }
-adds_at sums now next all entry total ledger false at so_far total_is some got =
-    let here : eqb entry.key.ledger ledger ≡ false = at_is entry.key.ledger ledger false at in
+adds_at sums now rest next all owner bytes total ledger false at so_far run total_is got =
+    let here : eqb owner ledger ≡ false = at_is owner ledger false at in
     let size : size_at now ledger ≡ size_at sums ledger = ap (λ (o : Option ℕ). unwrap_or o 0) got in
-    let bytes : (cond (eqb entry.key.ledger ledger) entry.size 0) ≡ 0 = ap (λ (t : Bool). cond t entry.size 0) here in
+    let part : (cond (eqb owner ledger) bytes 0) ≡ 0 = ap (λ (t : Bool). cond t bytes 0) here in
     let adds = so_far.adds ledger in
+    let parts = run.parts ledger in
     record {
       gets = got ∙ so_far.gets ledger ∙ ap sum_of (sym size);
       adds = omega arith;
     }
 
-pub adds_more : (sums now : BTreeMap ℕ ℕ) (rest next all : List Listed) (entry : Listed) (total : ℕ) → rest ≡ entry ∷ next → Adds sums rest all
-    → total ≡ size_at sums entry.key.ledger + entry.size → 0 < entry.size
-    → ((ledger : ℕ) → tree.get nat_cmp now ledger ≡ cond (is_at (nat_cmp entry.key.ledger) ledger) (Some total) (tree.get nat_cmp sums ledger)) → Adds now next all
-adds_more sums now rest next all entry total is so_far total_is some got =
-    let here : Adds sums (entry ∷ next) all = subst (λ (es : List Listed). Adds sums es all) is so_far in
-    let each : (ledger : ℕ) → AddsAt sums now (entry ∷ next) next all ledger =
-    λ ledger. adds_at sums now next all entry total ledger (is_at (nat_cmp entry.key.ledger) ledger) refl here total_is some (got ledger) in
+pub adds_more : (sums now : BTreeMap ℕ ℕ) (rest next all : List Listed) (owner bytes total : ℕ) → IsRunOf owner bytes rest next → Adds sums rest all
+    → total ≡ size_at sums owner + bytes
+    → ((ledger : ℕ) → tree.get nat_cmp now ledger ≡ cond (is_at (nat_cmp owner) ledger) (Some total) (tree.get nat_cmp sums ledger)) → Adds now next all
+adds_more sums now rest next all owner bytes total run so_far total_is got =
+    let each : (ledger : ℕ) → AddsAt now next all ledger =
+    λ ledger. adds_at sums now rest next all owner bytes total ledger (is_at (nat_cmp owner) ledger) refl so_far run total_is (got ledger) in
     record { gets = λ ledger. (each ledger).gets; adds = λ ledger. (each ledger).adds }
 
 pub adds_end : (sums : BTreeMap ℕ ℕ) (rest all : List Listed) → rest ≡ [] → Adds sums rest all
@@ -101,10 +147,6 @@ adds_end sums rest all none so_far ledger =
 
 -- ---- no sum is too great
 
-part_le : (b : Bool) (size : ℕ) → cond b size 0 ≤ size
-part_le true size = omega arith
-part_le false size = omega arith
-
 bytes_in-le : (entries : List Listed) (ledger : ℕ) → bytes_in entries ledger ≤ bytes_of entries
 bytes_in-le [] ledger = omega arith
 bytes_in-le (entry ∷ entries) ledger =
@@ -112,27 +154,15 @@ bytes_in-le (entry ∷ entries) ledger =
     let part = part_le (eqb entry.key.ledger ledger) entry.size in
     omega arith
 
-pub size_below : (sums : BTreeMap ℕ ℕ) (rest all : List Listed) (ledger : ℕ) → Adds sums rest all → AreFrom (past origin) all → size_at sums ledger < 2 ^ 32 + 4
-size_below sums rest all ledger so_far each =
-    let adds = so_far.adds ledger in
+pub total_below : (sums : BTreeMap ℕ ℕ) (rest next all : List Listed) (owner bytes : ℕ) → Adds sums rest all → IsRunOf owner bytes rest next
+    → AreFrom (past origin) all → size_at sums owner + bytes < 2 ^ 32 + 4
+total_below sums rest next all owner bytes so_far run each =
+    let adds = so_far.adds owner in
+    let here : eqb owner owner ≡ true = eq-eqb owner owner refl in
+    let part : (cond (eqb owner owner) bytes 0) ≡ bytes = ap (λ (t : Bool). cond t bytes 0) here in
+    let parts = run.parts owner in
     let below = bytes_below all each in
-    let part = bytes_in-le all ledger in
-    omega arith
-
--- what is left of legal entries are legal entries
-pub record LegalLeft (rest : List Listed) : Type 0 where
-  pub from : ℕ
-  pub each : AreFrom from rest
-
-pub legal_more : (rest next : List Listed) (entry : Listed) → rest ≡ entry ∷ next → LegalLeft rest → LegalLeft next
-legal_more rest next entry is left =
-    let split : AreFrom left.from (entry ∷ next) = subst (AreFrom left.from) is left.each in
-    record { from = past entry; each = split.1.1 }
-
-pub legal_some : (rest next : List Listed) (entry : Listed) → rest ≡ entry ∷ next → LegalLeft rest → 0 < entry.size
-legal_some rest next entry is left =
-    let split : AreFrom left.from (entry ∷ next) = subst (AreFrom left.from) is left.each in
-    let least = split.0.least in
+    let most = bytes_in-le all owner in
     omega arith
 
 -- ---- two maps

@@ -23,15 +23,6 @@ many_bytes from (x ∷ xs) each = let rest = many_bytes (past x) xs each.1.1 in 
 pub many_below : (xs : List Listed) → AreFrom (past origin) xs → length xs < 2 ^ 31
 many_below xs each = omega (arith, bytes_below xs each, many_bytes (past origin) xs each)
 
--- ---- a loop over the entries
-
--- the entries before and after a turn, and how far a count has come
-pub counted_more : (xs rest next : List Listed) (x : Listed) (count : ℕ) → rest ≡ x ∷ next → count + length rest ≡ length xs → count + 1 + length next ≡ length xs
-counted_more xs rest next x count is so_far = omega (arith, ap length is)
-
-pub summed_more : (xs rest next : List Listed) (x : Listed) (sum : ℕ) → rest ≡ x ∷ next → sum + bytes_of rest ≡ bytes_of xs → sum + x.size + bytes_of next ≡ bytes_of xs
-summed_more xs rest next x sum is so_far = omega (arith, ap bytes_of is)
-
 -- ---- heads and steps
 
 repeats_some : (count : ℕ) (last : Listed) → 0 < count → 1 ≤ length (repeats count last)

@@ -7,3 +7,4 @@ pub mod Checks
 pub mod Decodings
 pub mod Adding
 pub mod Turning
+pub mod Runwise

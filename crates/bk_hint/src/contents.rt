@@ -1,6 +1,6 @@
 //! The entries of a log, kept small.
 
-ghost use Rattle.std.specs.Prelude.{◌≡◌, ◌+◌, ◌++◌, ◌∷◌, [], ◌↔◌, IsTrue, OnOk, OnErr, IsNone, IfSome, length};
+ghost use Rattle.std.specs.Prelude.{◌≡◌, ◌+◌, ◌++◌, ◌∷◌, [], ◌↔◌, IsTrue, OnOk, OnErr, IsNone, IfSome, length, slice_get};
 ghost use Rattle.bk_hint.specs.Entries.{bytes_of, entries_of, last_of, origin, past, AreFrom, IsSound};
 ghost use Rattle.bk_hint.specs.Pushing.{CanStand};
 ghost use Rattle.bk_hint.specs.Runs.{entries_of_runs};
@@ -104,13 +104,28 @@ impl Contents {
         ListedRuns::over(&self.heads, &self.steps)
     }
 
-    /// Returns the number of entries, by a walk over them.
+    /// Returns the entry at this place of the file order, `None` if there are not so many. Place 0 is
+    /// that of the first entry. Takes steps in the number of runs.
+    pub fn nth(&self, place: u64) -> Option<Listed>
+        ensures { result ≡ slice_get self.now place }
+    {
+        let mut left = place;
+        for run in self.runs() {
+            if left <= u64::from(run.again) {
+                return Some(run.at(left as u32));
+            }
+            left -= u64::from(run.again) + 1;
+        }
+        None
+    }
+
+    /// Returns the number of entries. Takes steps in the number of runs.
     pub fn len(&self) -> u64
         ensures { result ≡ length self.now }
     {
         let mut count = 0;
-        for _entry in self.iter() {
-            count += 1;
+        for run in self.runs() {
+            count += run.count();
         }
         count
     }
@@ -122,13 +137,13 @@ impl Contents {
         self.iter().next().is_none()
     }
 
-    /// Returns the sum of the sizes of the records, by a walk over the entries.
+    /// Returns the sum of the sizes of the records. Takes steps in the number of runs.
     pub fn record_bytes(&self) -> u64
         ensures { result ≡ bytes_of self.now }
     {
         let mut bytes = 0;
-        for entry in self.iter() {
-            bytes += u64::from(entry.size);
+        for run in self.runs() {
+            bytes += run.bytes();
         }
         bytes
     }

@@ -1,6 +1,6 @@
 //! An entry of a log, as a hint lists it.
 
-ghost use Rattle.std.specs.Prelude.{◌≡◌, ◌+◌, ◌*◌, ◌<◌, ◌^◌, ◌↔◌, IsTrue};
+ghost use Rattle.std.specs.Prelude.{◌≡◌, ◌+◌, ◌*◌, ◌<◌, ◌≤◌, ◌^◌, ◌↔◌, IsTrue};
 ghost use Rattle.bk_hint.specs.Checking.{repeated_by};
 ghost use Rattle.bk_hint.specs.Entries.{next_of, origin, past};
 
@@ -78,17 +78,24 @@ impl Listed {
         self.next(self.size)
     }
 
+    /// Returns the sum of the sizes of so many records of this size.
+    #[tactic(auto, using(crate::proofs::Runwise::bytes_fit_in))]
+    pub(crate) fn times(&self, count: u64) -> u64
+        requires { count ≤ 2 ^ 32 }
+        ensures { result ≡ count * self.now.size }
+    {
+        count * u64::from(self.size)
+    }
+
     /// Returns the last of so many entries directly behind, each of the same size.
-    #[tactic(auto, using(crate::proofs::Checks::product_below))]
     pub(crate) fn behind(&self, count: u32) -> Listed
         requires id { self.now.key.entry + count < 2 ^ 63 }
         requires room { self.now.at + count * self.now.size < 2 ^ 64 }
         ensures { result ≡ repeated_by count self.now }
     {
-        let bytes = u64::from(count) * u64::from(self.size);
         Listed {
             key: Key::new(self.key.ledger(), self.key.entry() + u64::from(count)).unwrap(),
-            at: self.at + bytes,
+            at: self.at + self.times(u64::from(count)),
             size: self.size,
         }
     }

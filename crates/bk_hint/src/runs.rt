@@ -1,10 +1,10 @@
 //! Runs of entries, and an iterator over them.
 
-ghost use Rattle.std.specs.Prelude.{◌≡◌};
+ghost use Rattle.std.specs.Prelude.{◌≡◌, ◌≤◌, length, slice_get, Some};
 ghost use Rattle.std.specs.Iterator.{YieldsFirst, item_count};
-ghost use Rattle.bk_hint.specs.Checking.{repeated_by, IsRepeatable};
-ghost use Rattle.bk_hint.specs.Entries.{origin, IsSound};
-ghost use Rattle.bk_hint.specs.Runs.{runs_of};
+ghost use Rattle.bk_hint.specs.Checking.{IsRepeatable};
+ghost use Rattle.bk_hint.specs.Entries.{bytes_of, origin, IsSound};
+ghost use Rattle.bk_hint.specs.Runs.{entries_of_run, runs_of};
 
 use crate::Listed;
 use crate::entries::turn;
@@ -19,6 +19,32 @@ pub struct ListedRun {
     pub first: Listed,
     /// Number of entries that follow it.
     pub again: u32,
+}
+
+impl ListedRun {
+    /// Returns the number of entries.
+    #[tactic(auto, using(crate::proofs::Runwise::run_many))]
+    pub(crate) fn count(&self) -> u64
+        ensures { result ≡ length (entries_of_run self.now) }
+    {
+        u64::from(self.again) + 1
+    }
+
+    /// Returns the sum of the sizes of the records.
+    pub(crate) fn bytes(&self) -> u64
+        ensures { result ≡ bytes_of (entries_of_run self.now) }
+    {
+        self.first.times(u64::from(self.again) + 1)
+    }
+
+    /// Returns the entry at this place of the run. Place 0 is that of the first one.
+    pub(crate) fn at(&self, place: u32) -> Listed
+        requires inside { place ≤ self.now.again }
+        requires legal { IsRepeatable self.now.again self.now.first }
+        ensures { slice_get (entries_of_run self.now) place ≡ Some result }
+    {
+        self.first.behind(place)
+    }
 }
 
 /// Iterator over the runs of the entries of a log, in file order. `Contents::runs` returns it.

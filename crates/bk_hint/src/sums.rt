@@ -10,7 +10,7 @@ use std::alloc::{AllocError, Global};
 use std::collections::BTreeMap;
 
 /// Returns for each ledger the sum of the sizes of its records, as the ledgers map of the log has to
-/// have them. A ledger without a record has none.
+/// have them. A ledger without a record has none. Takes steps in the number of runs.
 ///
 /// # Errors
 ///
@@ -19,10 +19,10 @@ pub fn sums_by_ledger(alloc: Global, contents: &Contents) -> Result<BTreeMap<u64
     ensures { IfOk result (λ sums. (ledger : ℕ) → tree.get nat_cmp sums ledger ≡ sum_of (bytes_in contents.now ledger)) }
 {
     let mut sums = BTreeMap::new(alloc);
-    for entry in contents.iter() {
-        let of = entry.key.ledger();
+    for run in contents.runs() {
+        let of = run.first.key.ledger();
         let before = sums.get(&of).copied().unwrap_or(0);
-        let now = before + u64::from(entry.size);
+        let now = before + run.bytes();
         sums.insert(of, now)?;
     }
     Ok(sums)

@@ -1,7 +1,7 @@
 //! Random lists, written and read again.
 
-use super::listed;
 use super::writer::Writer;
+use super::{listed, unrolled};
 use bk_hint::{Contents, LogFacts, decode, encode};
 use bk_record::Key;
 use std::test::Fail;
@@ -45,6 +45,29 @@ fn random_lists_are_read_again(rt: HostRuntime) -> Result<(), Fail> {
 }
 
 #[test]
+fn runs_and_places_are_those_of_the_entries(rt: HostRuntime) -> Result<(), Fail> {
+    let alloc = rt.alloc();
+    for seed in 0..100 {
+        let mut writer = Writer::new(seed);
+        let (contents, _) = writer.write(alloc, seed as usize)?;
+        let entries = listed(alloc, &contents)?;
+        assert_eq!(rt;
+            unrolled(alloc, &contents)?.as_slice(),
+            entries.as_slice(),
+            "{seed}"
+        );
+        let mut place: u64 = 0;
+        for entry in contents.iter() {
+            assert_eq!(rt; contents.nth(place), Some(entry), "{seed}");
+            place = place.wrapping_add(1);
+        }
+        assert_eq!(rt; contents.nth(place), None);
+        assert_eq!(rt; contents.nth(u64::MAX), None);
+    }
+    Ok(())
+}
+
+#[test]
 fn entries_of_one_size_take_few_bytes(rt: HostRuntime) -> Result<(), Fail> {
     let alloc = rt.alloc();
     let mut contents = Contents::new(alloc);
@@ -56,6 +79,12 @@ fn entries_of_one_size_take_few_bytes(rt: HostRuntime) -> Result<(), Fail> {
         contents.push(key, at, 1044)?;
     }
     assert_eq!(rt; contents.len(), 10_000);
+    assert_eq!(rt; contents.record_bytes(), 10_440_000);
+    assert_eq!(rt; contents.runs().count(), 2);
+    let last = contents.nth(9_999).ok_or("last entry")?;
+    assert_eq!(rt; last.key.entry(), 9_999);
+    assert_eq!(rt; last.at, 1028 + 1044 * 9_999);
+    assert_eq!(rt; contents.nth(10_000), None);
     assert!(rt; !contents.is_empty());
     let facts = LogFacts {
         log: 1,

@@ -2,34 +2,41 @@ use Rattle.std.proofs.Common.{◌≡◌, ◌+◌, ℕ, Option, Some, cond, unwra
 use Rattle.std.specs.BTreeMap as tree
 use Rattle.std.specs.BTreeMap.{is_at}
 use Rattle.std.specs.Ordering.{nat_cmp}
-use Rattle.bk_hint.proofs.Adding.{size_at, adds_more, adds_end, size_below, legal_more, legal_some}
+use Rattle.bk_hint.specs.Entries.{bytes_of}
+use Rattle.bk_hint.specs.Runs.{entries_of_run, entries_of_runs}
+use Rattle.bk_hint.proofs.Adding.{size_at, run_sums, adds_more, total_below}
+use Rattle.bk_hint.proofs.Runwise.{legal_others}
 use Rattle.bk_hint.proofs.sums.sums_by_ledger.Goals as goal
 
 pub overflow_add-now : goal.overflow_add-now
 overflow_add-now c =
-    let below = size_below c.loop-entry.sums c.loop-entry.entry-iterator c.args.contents.now c.ledger-of.result c.loop-entry.invariant.adds
-    c.iter-entry-items.ensures.in_order in
-    let before : c.unwrap_or-before.result ≡ size_at c.loop-entry.sums c.ledger-of.result =
-    c.unwrap_or-before.ensures ∙ ap (λ (o : Option ℕ). unwrap_or o 0) (c.copied.ensures ∙ c.get.ensures.value) in
+    let run = c.in-Some.run' in
+    let owner = run.first.key.ledger in
+    let sums_run = run_sums c.loop-run.run-iterator c.next.new.self run c.in-Some.ensures.steps c.loop-run.invariant.legal in
+    let below = total_below c.loop-run.sums (entries_of_runs c.loop-run.run-iterator) (entries_of_runs c.next.new.self) c.args.contents.now owner
+    (bytes_of (entries_of_run run)) c.loop-run.invariant.adds sums_run c.runs-run-items.ensures.in_order in
+    let before : c.unwrap_or-before.result ≡ size_at c.loop-run.sums owner =
+    c.unwrap_or-before.ensures ∙ ap (λ (o : Option ℕ). unwrap_or o 0) (c.copied.ensures ∙ c.get.ensures.value)
+    ∙ ap (size_at c.loop-run.sums) c.ledger-of.ensures.value in
+    let bytes : c.bytes.result ≡ bytes_of (entries_of_run run) = c.bytes.ensures in
     omega arith
 
-pub loop-entry-preserved : goal.loop-entry-preserved
-loop-entry-preserved c =
-    let sums = c.loop-entry.sums in
+pub loop-run-preserved : goal.loop-run-preserved
+loop-run-preserved c =
+    let sums = c.loop-run.sums in
+    let run = c.in-Some.run' in
+    let owner = run.first.key.ledger in
+    let sums_run = run_sums c.loop-run.run-iterator c.next.new.self run c.in-Some.ensures.steps c.loop-run.invariant.legal in
     let before : c.unwrap_or-before.result ≡ size_at sums c.ledger-of.result =
     c.unwrap_or-before.ensures ∙ ap (λ (o : Option ℕ). unwrap_or o 0) (c.copied.ensures ∙ c.get.ensures.value) in
-    let of : c.ledger-of.result ≡ c.in-Some.entry.key.ledger = c.ledger-of.ensures.value in
-    let size : c.from.result ≡ c.in-Some.entry.size = c.from.ensures in
-    let total : c.unwrap_or-before.result + c.from.result ≡ size_at sums c.in-Some.entry.key.ledger + c.in-Some.entry.size =
-    ap (λ (n : ℕ). n + c.from.result) (before ∙ ap (size_at sums) of) ∙ ap (λ (n : ℕ). size_at sums c.in-Some.entry.key.ledger + n) size in
+    let of : c.ledger-of.result ≡ owner = c.ledger-of.ensures.value in
+    let bytes : c.bytes.result ≡ bytes_of (entries_of_run run) = c.bytes.ensures in
+    let total : c.unwrap_or-before.result + c.bytes.result ≡ size_at sums owner + bytes_of (entries_of_run run) =
+    ap (λ (n : ℕ). n + c.bytes.result) (before ∙ ap (size_at sums) of) ∙ ap (λ (n : ℕ). size_at sums owner + n) bytes in
     record {
-      adds = adds_more sums c.insert.new.self c.loop-entry.entry-iterator c.next.new.self c.args.contents.now c.in-Some.entry
-          (c.unwrap_or-before.result + c.from.result) c.in-Some.ensures.steps c.loop-entry.invariant.adds total
-          (legal_some c.loop-entry.entry-iterator c.next.new.self c.in-Some.entry c.in-Some.ensures.steps c.loop-entry.invariant.legal)
+      adds = adds_more sums c.insert.new.self (entries_of_runs c.loop-run.run-iterator) (entries_of_runs c.next.new.self) c.args.contents.now owner
+          (bytes_of (entries_of_run run)) (c.unwrap_or-before.result + c.bytes.result) sums_run c.loop-run.invariant.adds total
           (λ ledger. c.in_ok-insert.ensures.updates.0 ledger
-          ∙ ap (λ (k : ℕ). cond (is_at (nat_cmp k) ledger) (Some (c.unwrap_or-before.result + c.from.result)) (tree.get nat_cmp sums ledger)) of);
-      legal = legal_more c.loop-entry.entry-iterator c.next.new.self c.in-Some.entry c.in-Some.ensures.steps c.loop-entry.invariant.legal;
+          ∙ ap (λ (k : ℕ). cond (is_at (nat_cmp k) ledger) (Some (c.unwrap_or-before.result + c.bytes.result)) (tree.get nat_cmp sums ledger)) of);
+      legal = legal_others c.loop-run.run-iterator c.next.new.self run c.in-Some.ensures.steps c.loop-run.invariant.legal;
     }
-
-pub returns : goal.returns
-returns c = adds_end c.loop-entry.sums c.loop-entry.entry-iterator c.args.contents.now c.in-None.ensures.steps.0 c.loop-entry.invariant.adds
