@@ -1,12 +1,12 @@
 -- A sample of a log's records, compared one by one.
-use Rattle.std.proofs.Common.{◌≡◌, ◌∙◌, inl, inr, ℕ, zero, suc, ◌+◌, ◌-◌, ◌/◌, ◌%◌, ◌^◌, ◌<◌, ◌≤◌, min, leb, true, false, List, [], ◌∷◌, ◌++◌, length, take, drop, get_or, Some, None, Result, Ok, Err, slice_get, refl, sym, ap, subst, arith}
+use Rattle.std.proofs.Common.{◌≡◌, ◌∙◌, inl, inr, ℕ, zero, suc, ◌+◌, ◌-◌, ◌/◌, ◌%◌, ◌^◌, ◌<◌, ◌≤◌, min, leb, true, false, List, [], ◌∷◌, ◌++◌, length, take, drop, get_or, Some, Result, Ok, Err, slice_get, refl, sym, ap, subst, arith}
 use Rattle.std.specs.Prelude.{IsOk, OnOk}
 use Rattle.std.proofs.lemmas.Bool.{leb-true, leb-false}
 use Rattle.std.specs.List.{All}
 use Rattle.std.specs.Int.{w32, w64, to_be_bytes, from_be_bytes}
 use Rattle.std.proofs.lemmas.List.{append-nil, drop-drop, get_or_read_under, length-drop, nil_from_length, take-append-drop}
 use Rattle.std.proofs.lemmas.List.Elements.{All-take, All-drop}
-use Rattle.std.proofs.lemmas.Option.{same_Some, slice_get_within, none-some}
+use Rattle.std.proofs.lemmas.Option.{same_Some, slice_get_within}
 use Rattle.std.proofs.Math.Nat.{mod-eq_of_lt, mod-add-mod, add-mod_right}
 use Rattle.std.proofs.Math.Seq.{take-append_seam, drop-append_seam}
 use Rattle.bk_record.specs.Spelling.{IsBytes}
@@ -82,9 +82,6 @@ noted entries place at old new entry is placed pushed = λ file each.
           subst (IsRecordIn file) (same_Some entry other (sym is ∙ also)) (subst (λ n. HasPrefix (drop n file) (head_of entry)) placed here),
     )
 
-pub not_noted : (entries : List Listed) (place : ℕ) (probes : List Probe) → slice_get entries place ≡ None → IsNoted entries place probes probes
-not_noted entries place probes none = λ file each. (each, λ entry is. absurd (none-some entry (sym none ∙ is)))
-
 -- if a file has the records of the probes, it has those of the entries at the multiples of the
 -- spacing before a place
 abbrev pub AreEven : List Listed → ℕ → ℕ → List Probe → Type 0
@@ -95,12 +92,6 @@ AreEven entries spacing place probes = (file : List ℕ) → All (IsMet file) pr
 pub record Samples (entries : List Listed) (spacing last place : ℕ) (probes : List Probe) : Type 0 where
   pub even : AreEven entries spacing place probes
   pub multiple : place < last → place % spacing ≡ 0
-
-pub samples_none : (entries : List Listed) (spacing last : ℕ) (probes : List Probe) → 0 < spacing → Samples entries spacing last 0 probes
-samples_none entries spacing last probes some = record {
-  even = λ file each k before. absurd (omega arith);
-  multiple = λ _. mod-eq_of_lt some;
-}
 
 -- the only multiple between a multiple and the next one is the first of them
 next_multiple : (spacing place k : ℕ) → place % spacing ≡ 0 → k % spacing ≡ 0 → place ≤ k → k < place + spacing → place ≡ k
@@ -148,9 +139,6 @@ samples_all entries last place probes now many past noted samples = λ file each
           let here : last ≡ k = omega (arith, leb-false (k + 1) last no) in
           subst (HasRecordAt file entries) here parts.1 entry is
     ] refl
-
-pub none_sampled : (entries : List Listed) (probes : List Probe) → length entries ≡ 0 → AreProbesOf entries probes
-none_sampled entries probes none = λ file each k sampled entry is. let within = slice_get_within entries k entry is in absurd (omega arith)
 
 -- ---- entries that are records
 
