@@ -1,23 +1,24 @@
 -- A sample of a log's records, compared one by one.
-use Rattle.std.proofs.Common.{◌≡◌, ◌∙◌, inl, inr, ℕ, zero, suc, ◌+◌, ◌-◌, ◌<◌, ◌≤◌, leb, true, false, List, [], ◌∷◌, ◌++◌, length, take, drop, get_or, Some, Result, Ok, Err, slice_get, refl, sym, ap, subst, arith}
+use Rattle.std.proofs.Common.{◌≡◌, ◌∙◌, inl, inr, ℕ, zero, suc, ◌+◌, ◌-◌, ◌/◌, ◌%◌, ◌^◌, ◌<◌, ◌≤◌, min, leb, true, false, List, [], ◌∷◌, ◌++◌, length, take, drop, get_or, Some, Result, Ok, Err, slice_get, refl, sym, ap, subst, arith}
 use Rattle.std.specs.Prelude.{IsOk, OnOk}
 use Rattle.std.proofs.lemmas.Bool.{leb-true, leb-false}
 use Rattle.std.specs.List.{All}
 use Rattle.std.specs.Int.{w32, w64, to_be_bytes, from_be_bytes}
 use Rattle.std.proofs.lemmas.List.{append-nil, drop-drop, get_or_read_under, length-drop, nil_from_length, take-append-drop}
 use Rattle.std.proofs.lemmas.List.Elements.{All-take, All-drop}
-use Rattle.std.proofs.lemmas.Option.{same_Some}
+use Rattle.std.proofs.lemmas.Option.{same_Some, slice_get_within}
+use Rattle.std.proofs.Math.Nat.{mod-eq_of_lt, mod-add-mod, add-mod_right}
 use Rattle.std.proofs.Math.Seq.{take-append_seam, drop-append_seam}
 use Rattle.bk_record.specs.Spelling.{IsBytes}
 use Rattle.bk_record.proofs.Records.{bytes_drop}
 use Rattle.bk_disk.specs.declared.fault.DiskFault.{DiskFault}
+use Rattle.bk_disk.specs.Blocks.{HasPrefix}
 use Rattle.bk_disk.specs.Disk.{ReadsInto}
 use Rattle.bk_hint.specs.declared.listed.Listed.{Listed}
-use Rattle.bk_hint.specs.Entries.{past, origin, IsLegal, AreFrom}
 use Rattle.bk_hint.proofs.Fields.{cut_4, cut_8}
 use Rattle.bk_hint_view.specs.Rows.{head_of, AreRecords}
 use Rattle.bk_hint_disk.specs.declared.sample.Probe.{Probe}
-use Rattle.bk_hint_disk.specs.Usable.{AreProbesOf, IsHead, IsMet, IsNoted, IsRecordIn, IsSample, IsSampled}
+use Rattle.bk_hint_disk.specs.Usable.{spacing_of, AreProbesOf, HasRecordAt, IsHead, IsMet, IsNoted, IsRecordIn, IsSample}
 
 -- ---- one record
 
@@ -59,19 +60,7 @@ met_more file probes n probe before is there here k d within =
           subst (λ (m : ℕ). IsMet file (get_or probes m d)) at (subst (IsMet file) (get_or_read_under probes n (length probes) probe d is there refl) here)
     ] refl
 
--- ---- the records one by one
-
--- those of these entries that are compared, of which the first is at a place of so many, are records
--- of the file
-abbrev pub AreSampled : List ℕ → ℕ → ℕ → List Listed → Type 0
-AreSampled file count place [] = Unit {0}
-AreSampled file count place (entry ∷ entries) = (IsSampled count place → IsRecordIn file entry) × AreSampled file count (place + 1) entries
-
-sampled_at : (file : List ℕ) (count place k : ℕ) (entries : List Listed) (entry : Listed) → AreSampled file count place entries → slice_get entries k ≡ Some entry
-    → IsSampled count (place + k) → IsRecordIn file entry
-sampled_at file count place k [] entry are is at = absurd cc
-sampled_at file count place zero (x ∷ xs) entry are is at = subst (IsRecordIn file) (same_Some x entry is) (are.0 (subst (IsSampled count) (omega arith) at))
-sampled_at file count place (suc k) (x ∷ xs) entry are is at = sampled_at file count (place + 1) k xs entry are.1 is (subst (IsSampled count) (omega arith) at)
+-- ---- the places one by one
 
 -- the first elements of a list, and the last one
 all_before : (P : Probe → Type 0) (xs : List Probe) (x : Probe) → All P (xs ++ x ∷ []) → All P xs
@@ -82,60 +71,74 @@ all_last P xs x each =
     let last : All P (x ∷ []) = subst (All P) (drop-append_seam xs (x ∷ [])) (All-drop P (length xs) (xs ++ x ∷ []) each) in
     last 0 x (omega arith)
 
--- the probes so far, and the entries that are left
-pub record Samples (count place : ℕ) (probes : List Probe) (rest all : List Listed) : Type 0 where
-  pub count_is : count ≡ length all
-  pub left : place + length rest ≡ length all
-  pub goes_on : (file : List ℕ) → All (IsMet file) probes → AreSampled file count place rest → AreSampled file count 0 all
-  pub from : ℕ
-  pub behind : 4 ≤ from
-  pub legal : AreFrom from rest
+pub noted : (entries : List Listed) (place at : ℕ) (old new : List Probe) (entry : Listed) → slice_get entries place ≡ Some entry → at ≡ entry.at - 4
+    → new ≡ old ++ (record { at = at; entry = entry }) ∷ [] → IsNoted entries place old new
+noted entries place at old new entry is placed pushed = λ file each.
+    let probe : Probe = record { at = at; entry = entry } in
+    let both : All (IsMet file) (old ++ probe ∷ []) = subst (All (IsMet file)) pushed each in (
+      all_before (IsMet file) old probe both,
+      λ other also.
+          let here : HasPrefix (drop at file) (head_of entry) = all_last (IsMet file) old probe both in
+          subst (IsRecordIn file) (same_Some entry other (sym is ∙ also)) (subst (λ n. HasPrefix (drop n file) (head_of entry)) placed here),
+    )
 
-pub samples_none : (count : ℕ) (probes : List Probe) (rest all : List Listed) → count ≡ length all → rest ≡ all → AreFrom (past origin) all → Samples count 0 probes rest all
-samples_none count probes rest all many same legal = record {
-  count_is = many;
-  left = omega (arith, ap length same);
-  goes_on = λ file _ are. subst (AreSampled file count 0) same are;
-  from = past origin;
-  behind = omega arith;
-  legal = subst (AreFrom (past origin)) (sym same) legal;
+-- if a file has the records of the probes, it has those of the entries at the multiples of the
+-- spacing before a place
+abbrev pub AreEven : List Listed → ℕ → ℕ → List Probe → Type 0
+AreEven entries spacing place probes = (file : List ℕ) → All (IsMet file) probes → (k : ℕ) → k < place → k % spacing ≡ 0 → HasRecordAt file entries k
+
+-- the probes so far: those of the multiples of the spacing before a place, which is the next one
+-- unless it is past the last place
+pub record Samples (entries : List Listed) (spacing last place : ℕ) (probes : List Probe) : Type 0 where
+  pub even : AreEven entries spacing place probes
+  pub multiple : place < last → place % spacing ≡ 0
+
+-- the only multiple between a multiple and the next one is the first of them
+next_multiple : (spacing place k : ℕ) → place % spacing ≡ 0 → k % spacing ≡ 0 → place ≤ k → k < place + spacing → place ≡ k
+next_multiple spacing place k one other above below =
+    let d = k - place in
+    let less : d < spacing = omega arith in
+    let sum : place % spacing + d ≡ d = omega arith in
+    let here : k ≡ place + d = omega arith in
+    let none : d ≡ 0 =
+    sym (mod-eq_of_lt less) ∙ ap (λ n. n % spacing) (sym sum) ∙ mod-add-mod place spacing d ∙ ap (λ n. n % spacing) (sym here) ∙ other in
+    omega arith
+
+pub samples_more : (entries : List Listed) (spacing last place next : ℕ) (probes now : List Probe) → place < last → last < 2 ^ 64 → next ≡ min (place + spacing) (2 ^ 64 - 1)
+    → IsNoted entries place probes now → Samples entries spacing last place probes → Samples entries spacing last next now
+samples_more entries spacing last place next probes now before fits is noted samples = record {
+  even = λ file each k below divides.
+      let parts = noted file each in
+      elim (leb (k + 1) place) as (λ b. leb (k + 1) place ≡ b → HasRecordAt file entries k) [
+        | true ↦ λ yes. samples.even file parts.0 k (omega (arith, leb-true (k + 1) place yes)) divides
+        | false ↦ λ no.
+            let above : place ≤ k = omega (arith, leb-false (k + 1) place no) in
+            let less : k < place + spacing = omega arith in
+            subst (HasRecordAt file entries) (next_multiple spacing place k (samples.multiple before) divides above less) parts.1
+      ] refl;
+  multiple = λ more.
+      let same : next ≡ place + spacing = omega arith in
+      ap (λ n. n % spacing) same ∙ add-mod_right place spacing ∙ samples.multiple before;
 }
 
--- the next entry
-pub samples_first : (count place : ℕ) (probes : List Probe) (rest next all : List Listed) (entry : Listed) → rest ≡ entry ∷ next → Samples count place probes rest all
-    → record { behind : 4 ≤ entry.at; within : place + 1 ≤ count }
-samples_first count place probes rest next all entry is samples =
-    let legal = subst (AreFrom samples.from) is samples.legal in
-    record {
-      behind = omega (arith, legal.1.0, samples.behind);
-      within = omega (arith, samples.left, samples.count_is, ap length is);
-    }
-
-pub samples_more : (count place : ℕ) (probes now : List Probe) (rest next all : List Listed) (entry : Listed) → rest ≡ entry ∷ next
-    → IsNoted count place entry probes now → Samples count place probes rest all → Samples count (place + 1) now next all
-samples_more count place probes now rest next all entry is noted samples =
-    let legal = subst (AreFrom samples.from) is samples.legal in
-    let probe : Probe = record { at = entry.at - 4; entry = entry } in
-    record {
-      count_is = samples.count_is;
-      left = omega (arith, samples.left, ap length is);
-      goes_on = λ file each are. elim noted [
-        | inl at ↦
-            let all_met : All (IsMet file) (probes ++ probe ∷ []) = subst (All (IsMet file)) at.1 each in
-            samples.goes_on file (all_before (IsMet file) probes probe all_met)
-            (subst (AreSampled file count place) (sym is) ((λ _. all_last (IsMet file) probes probe all_met), are))
-        | inr apart ↦ samples.goes_on file (subst (All (IsMet file)) apart.1 each) (subst (AreSampled file count place) (sym is) ((λ at. absurd (apart.0 at)), are))
-      ];
-      from = past entry;
-      behind = omega (arith, legal.1.0, samples.behind);
-      legal = legal.1.1;
-    }
-
-pub samples_all : (count place : ℕ) (probes : List Probe) (rest all : List Listed) → rest ≡ [] → Samples count place probes rest all → AreProbesOf all probes
-samples_all count place probes rest all none samples = λ file each k entry is at.
-    let are = samples.goes_on file each (subst (AreSampled file count place) (sym none) tt) in
-    let here : k ≡ 0 + k = omega arith in
-    sampled_at file count 0 k all entry are is (subst (IsSampled count) here (subst (λ (n : ℕ). IsSampled n k) (sym samples.count_is) at))
+pub samples_all : (entries : List Listed) (last place : ℕ) (probes now : List Probe) → last + 1 ≡ length entries → last ≤ place
+    → IsNoted entries last probes now → Samples entries (last / 15 + 1) last place probes → AreProbesOf entries now
+samples_all entries last place probes now many past noted samples = λ file each k sampled entry is.
+    let parts = noted file each in
+    let within = slice_get_within entries k entry is in
+    let spacing : spacing_of (length entries) ≡ last / 15 + 1 =
+    let less : length entries - 1 ≡ last = omega arith in ap (λ n. n / 15 + 1) less in
+    elim (leb (k + 1) last) as (λ b. leb (k + 1) last ≡ b → IsRecordIn file entry) [
+      | true ↦ λ yes.
+          let before : k < last = omega (arith, leb-true (k + 1) last yes) in
+          elim sampled [
+            | inl divides ↦ samples.even file parts.0 k (omega arith) (subst (λ n. k % n ≡ 0) spacing divides) entry is
+            | inr final ↦ absurd (omega arith)
+          ]
+      | false ↦ λ no.
+          let here : last ≡ k = omega (arith, leb-false (k + 1) last no) in
+          subst (HasRecordAt file entries) here parts.1 entry is
+    ] refl
 
 -- ---- entries that are records
 
@@ -146,4 +149,4 @@ record_at file (suc k) (x ∷ xs) entry are is = record_at file k xs entry (λ j
 
 -- the sample of entries that are all records
 pub sample_of : (file : List ℕ) (entries : List Listed) → AreRecords file entries → IsSample file entries
-sample_of file entries are = λ k entry is at. record_at file k entries entry are is
+sample_of file entries are = λ k at entry is. record_at file k entries entry are is

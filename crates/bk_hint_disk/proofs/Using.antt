@@ -1,5 +1,5 @@
 -- A hint that is put, dropped or used.
-use Rattle.std.proofs.Common.{◌≡◌, ◌∙◌, inl, inr, ℕ, List, Option, Some, None, Result, Ok, Err, IfSome, Vec, true, refl, sym, ap, subst, drop}
+use Rattle.std.proofs.Common.{◌≡◌, ◌∙◌, inl, inr, ℕ, List, Option, Some, None, Result, Ok, Err, IfSome, Vec, true, refl, sym, ap, subst}
 use mathlib.Core.Bool.{false≢true}
 use Rattle.std.specs.Global.{Global}
 use Rattle.std.specs.Prelude.{is_ok}
@@ -7,13 +7,12 @@ use Rattle.std.specs.Cmp.{nat_cmp_total}
 use Rattle.std.specs.FinMap as map
 use Rattle.std.specs.FinMap.{nat_cmp-IsAntisymmetric}
 use Rattle.std.proofs.lemmas.Option.{same_Some}
-use Rattle.std.proofs.lemmas.List.Elements.{All-map}
 use Rattle.bk_record.specs.Files.{Files}
 use Rattle.bk_record.proofs.Maps.{get-insert_cases}
-use Rattle.bk_disk.specs.Blocks.{HasPrefix}
 use Rattle.bk_hint.specs.declared.listed.Listed.{Listed}
-use Rattle.bk_hint_view.specs.declared.row.Row.{Row}
-use Rattle.bk_hint_view.specs.Rows.{row_of, rows_of, AreRecords, IsTrueTable}
+use Rattle.bk_hint.specs.declared.runs.ListedRun.{ListedRun}
+use Rattle.bk_hint.specs.Runs.{entries_of_runs}
+use Rattle.bk_hint_view.specs.Rows.{are_records, AreRecords}
 use Rattle.bk_hint_view.specs.Showing.{has_true_table}
 use Rattle.bk_hint_view.proofs.Truths.{true_test}
 use Rattle.bk_hint_disk.specs.declared.fault.HintStoreFault.{HintStoreFault}
@@ -49,12 +48,12 @@ pub dropped : {T : Type 0} (hints now : Files) (log : ℕ) (result : Result T Hi
 dropped hints now log (Ok x) turn is = turn
 dropped hints now log (Err fault) turn is = absurd (false≢true is)
 
-pub table_holds : (hints files new : Files) (log : ℕ) (file : List ℕ) (found : Result (Option (Vec ℕ Global)) HintStoreFault) (entries : List Listed) (table : Option (List Row))
+pub table_holds : (hints files new : Files) (log : ℕ) (file : List ℕ) (found : Result (Option (Vec ℕ Global)) HintStoreFault) (entries : List Listed) (table : Option (List ListedRun))
     → AreTrue hints files → map.get files log ≡ Some file → Gets bytes_in hints log found new → HasHint found log entries
-    → IfSome table (λ t. t ≡ rows_of entries) → has_true_table table file ≡ true
+    → IfSome table (λ t. entries_of_runs t ≡ entries) → has_true_table table file ≡ true
 table_holds hints files new log file found entries None holds is gets has made = refl
 table_holds hints files new log file (Ok (Some hint)) entries (Some rows) holds is gets has made =
     let are : AreRecords file entries = holds log hint.items file (sym gets.0) is has.facts entries has.is in
-    true_test rows file (subst (λ (r : List Row). IsTrueTable r file) (sym made) (All-map (λ (row : Row). HasPrefix (drop row.at file) row.head) row_of entries are))
+    ap (are_records file) made ∙ true_test file entries are
 table_holds hints files new log file (Ok None) entries (Some rows) holds is gets has made = absurd has
 table_holds hints files new log file (Err fault) entries (Some rows) holds is gets has made = absurd has

@@ -13,8 +13,10 @@ use std::alloc::{AllocError, Global};
 use std::marker::Model;
 
 /// A disk over another one, and a store of hints of its logs. After a `list`, the first view of each
-/// log lends the heads that its hint lists, if the hint may be used (`check_hint`). Other views have
-/// none, and no call but this first view reads a hint.
+/// log knows the records that its hint lists, if the hint may be used (`check_hint`): it lends their
+/// runs (`lend_run`). Other views lend none, and no call but this first view reads a hint.
+///
+/// Until it is made, such a view takes time for each run of entries, and none for each entry.
 ///
 /// The files are those of the inner disk. `create` and `remove` first drop the hint of the log. If
 /// that fails, this disk believes no hint from then on: one may be left of an earlier log of the id.

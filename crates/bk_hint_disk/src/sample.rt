@@ -1,8 +1,8 @@
 //! A few records of a log, compared with what a hint lists.
 
-ghost use Rattle.std.specs.Prelude.{◌+◌, ◌≤◌, ◌↔◌, IsTrue, IsOk, IfOk, OnOk};
+ghost use Rattle.std.specs.Prelude.{IsTrue, IsOk, IfOk, OnOk};
 ghost use Rattle.std.specs.List.{All};
-ghost use Rattle.bk_hint_disk.specs.Usable.{AreProbesOf, IsHead, IsMet, IsNoted, IsSampled};
+ghost use Rattle.bk_hint_disk.specs.Usable.{AreProbesOf, IsHead, IsMet, IsNoted};
 
 use crate::WhyNot;
 use bk_disk::{DiskFault, LogView};
@@ -23,7 +23,7 @@ pub(crate) struct Probe {
 }
 
 /// Returns at most 16 records of these entries: the first one, the last one, and those between at
-/// even distances.
+/// even distances. Takes steps in the number of runs.
 ///
 /// # Errors
 ///
@@ -31,36 +31,29 @@ pub(crate) struct Probe {
 pub(crate) fn probes_of(alloc: Global, contents: &Contents) -> Result<Vec<Probe>, AllocError>
     ensures { IfOk result (λ probes. AreProbesOf contents.now probes.items) }
 {
-    let count = contents.len();
     let mut probes = Vec::new(alloc);
+    let Some(last) = contents.len().checked_sub(1) else {
+        return Ok(probes);
+    };
+    let spacing = last / EVEN + 1;
     let mut place = 0;
-    for entry in contents.iter() {
-        note(&mut probes, count, place, &entry)?;
-        place += 1;
+    while place < last {
+        note(&mut probes, contents, place)?;
+        place = place.saturating_add(spacing);
     }
+    note(&mut probes, contents, last)?;
     Ok(probes)
 }
 
-/// Appends the record of the entry at this place of so many, if it is compared.
-fn note(probes: &mut Vec<Probe>, count: u64, place: u64, entry: &Listed) -> Result<(), AllocError>
-    requires within { place + 1 ≤ count }
-    requires behind { 4 ≤ entry.now.at }
-    ensures { OnOk result (IsNoted count place entry.now probes.old.items probes.new.items) }
+/// Appends the record of the entry at this place, if there is one.
+fn note(probes: &mut Vec<Probe>, contents: &Contents, place: u64) -> Result<(), AllocError>
+    ensures { OnOk result (IsNoted contents.now place probes.old.items probes.new.items) }
 {
-    if is_sampled(count, place) {
-        let at = entry.at - LENGTH_FIELD as u64;
-        probes.push(Probe { at, entry: *entry })?;
+    if let Some(entry) = contents.nth(place) {
+        let at = entry.at.saturating_sub(LENGTH_FIELD as u64);
+        probes.push(Probe { at, entry })?;
     }
     Ok(())
-}
-
-/// Returns whether the entry at this place of so many is compared with its log.
-fn is_sampled(count: u64, place: u64) -> bool
-    requires { place + 1 ≤ count }
-    ensures { IsTrue result ↔ IsSampled count place }
-{
-    let spacing = (count - 1) / EVEN + 1;
-    place % spacing == 0 || place + 1 == count
 }
 
 /// Compares records of a log with their entries.

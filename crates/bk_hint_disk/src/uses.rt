@@ -1,7 +1,7 @@
 //! Which hints are to be used, and which were not.
 
 ghost use Rattle.std.specs.Prelude.{◌≡◌, IfOk, IfSome, IsNone};
-ghost use Rattle.bk_hint_view.specs.Rows.{rows_of};
+ghost use Rattle.bk_hint.specs.Runs.{entries_of_runs};
 ghost use Rattle.bk_hint_disk.specs.Truth.{HasHint};
 
 use crate::checking::{Front, check_front, check_map};
@@ -100,7 +100,7 @@ impl Uses {
         tail: Result<Vec<u8>, DiskFault>,
         compared: Result<(), WhyNot>,
     ) -> Option<Table>
-        ensures { IfSome result (λ table. table ≡ rows_of front.now.contents) }
+        ensures { IfSome result (λ table. entries_of_runs table ≡ front.now.contents) }
     {
         match table_of(alloc, front, header, tail, compared) {
             Ok(table) => Some(table),
@@ -138,7 +138,7 @@ fn table_of(
     tail: Result<Vec<u8>, DiskFault>,
     compared: Result<(), WhyNot>,
 ) -> Result<Table, WhyNot>
-    ensures { IfOk result (λ table. table ≡ rows_of front.now.contents) }
+    ensures { IfOk result (λ table. entries_of_runs table ≡ front.now.contents) }
 {
     let tail = match tail {
         Ok(tail) => tail,

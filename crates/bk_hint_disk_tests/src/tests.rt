@@ -15,3 +15,4 @@ mod opened;
 mod random;
 mod reasons;
 mod refused;
+mod runs;

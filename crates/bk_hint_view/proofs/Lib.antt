@@ -1,3 +1,2 @@
-pub mod Making
-pub mod Searching
+pub mod Rests
 pub mod Truths

@@ -1,17 +1,15 @@
-//! A view that has heads of records in memory.
+//! A view that has the records of a log in memory.
 
-ghost use Rattle.std.specs.Prelude.{◌≡◌, ◌&&◌, IsTrue, drop};
-ghost use Rattle.bk_disk.specs.Blocks.{HasPrefix};
-ghost use Rattle.bk_hint_view.specs.Showing.{has_true_table, Lends};
+ghost use Rattle.std.specs.Prelude.{◌≡◌, ◌&&◌, IsTrue};
+ghost use Rattle.bk_hint_view.specs.Showing.{has_true_table};
 
 use crate::Table;
-use bk_disk::{DiskFault, LogView};
+use bk_disk::{DiskFault, LogView, RecordRun};
 use std::alloc::Global;
 use std::marker::Model;
 
-/// A view of a log, and a table of heads of its records. It has the bytes of the inner view, and is
-/// sound if that is. It lends the heads of the table, so a scan of the log reads no record that has a
-/// row.
+/// A view of a log, and a table of its records. It has the bytes of the inner view, and is sound if
+/// that is. It lends the runs of the table, so a scan of the log reads no record of the table.
 ///
 /// It is honest if the inner view is and the table is true of the log: the table is trusted.
 #[derive(Drop)]
@@ -64,18 +62,19 @@ impl<V: LogView> LogView for HintedView<V> {
         self.inner.read_into(at, out)
     }
 
-    /// Returns the head of the record at this position if the table has its row, else what the inner
-    /// view lends.
-    fn lend(&self, at: u64) -> &[u8]
-        ensures bytes { IsTrue (self.now.inner && has_true_table self.now.table self.now.bytes) → HasPrefix (drop at self.now.bytes) result.now }
-        ensures row { Lends self.now.table at result.now }
-    {
+    fn lend(&self, at: u64) -> &[u8] {
+        self.inner.lend(at)
+    }
+
+    /// Returns the records at this position that are in one run of the table, else what the inner
+    /// view knows.
+    fn lend_run(&self, at: u64) -> Option<RecordRun> {
         match &self.table {
-            Some(table) => match table.head_at(at) {
-                Some(head) => head,
-                None => self.inner.lend(at),
+            Some(table) => match table.run_at(at) {
+                Some(run) => Some(run),
+                None => self.inner.lend_run(at),
             },
-            None => self.inner.lend(at),
+            None => self.inner.lend_run(at),
         }
     }
 

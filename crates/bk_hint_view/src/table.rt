@@ -1,64 +1,82 @@
-//! The heads of a log's records, in memory.
+//! The records of a log, in memory.
 
-ghost use Rattle.std.specs.Prelude.{◌≡◌, IsNone, IfOk, IfSome, length};
-ghost use Rattle.bk_hint_view.specs.Rows.{rows_of, HasNoRow, HasRow};
+ghost use Rattle.std.specs.Prelude.{◌≡◌, IfOk, IfSome, length};
+ghost use Rattle.bk_hint.specs.Runs.{entries_of_runs};
+ghost use Rattle.bk_hint_view.specs.Rows.{IsRestIn, IsRestOf};
 
-use crate::Row;
-use crate::place::place_of;
-use bk_hint::Contents;
+use bk_disk::RecordRun;
+use bk_hint::{Contents, ListedRun};
+use bk_record::{Key, LENGTH_FIELD};
 use std::alloc::{AllocError, Global};
 use std::marker::Model;
 
-/// The heads of records of a log: of each one its position and its first 20 bytes, with rising
-/// positions. Contracts see the list of rows.
+/// The records of a log, as runs of entries in file order. Contracts see the list of runs.
 #[derive(Debug, Drop)]
 pub struct Table {
-    rows: Vec<Row>,
+    rows: Vec<ListedRun>,
 }
 
 impl Model for Table {
     ghost use Rattle.std.specs.Prelude.{List};
-    ghost use Rattle.bk_hint_view.specs.declared.row.Row.{Row};
-    ghost use Rattle.bk_hint_view.specs.Rows.{AreInOrder};
+    ghost use Rattle.bk_hint.specs.declared.runs.ListedRun.{ListedRun};
 
-    ghost Value = { List Row };
+    ghost Value = { List ListedRun };
 
     ghost view = { λ table. table.rows.items };
-
-    ghost invariant = { λ table. AreInOrder table.rows.items };
 }
 
 impl Table {
-    /// Returns the table of the entries of a log. Allocates 24 bytes for each.
+    /// Returns the table of the entries of a log. Allocates some 32 bytes for each run of entries.
     ///
     /// # Errors
     ///
     /// - `AllocError` if an allocation is refused.
     pub fn of(alloc: Global, contents: &Contents) -> Result<Table, AllocError>
-        ensures { IfOk result (λ table. table ≡ rows_of contents.now) }
+        ensures { IfOk result (λ table. entries_of_runs table ≡ contents.now) }
     {
-        let mut rows = Vec::with_capacity(alloc, contents.len() as usize)?;
-        for entry in contents.iter() {
-            rows.push(Row::of(&entry))?;
+        let mut rows = Vec::new(alloc);
+        for run in contents.runs() {
+            rows.push(run)?;
         }
         Ok(Table { rows })
     }
 
-    /// Returns the number of rows.
+    /// Returns the number of runs.
     pub fn len(&self) -> usize
         ensures { result ≡ length self.now }
     {
         self.rows.len()
     }
 
-    /// Returns the first 20 bytes of the record at this position, if the table has its row.
-    pub fn head_at(&self, at: u64) -> Option<&[u8]>
-        ensures some { IfSome result (λ head. HasRow self.now at head.now) }
-        ensures none { IsNone result → HasNoRow self.now at }
+    /// Returns the records at this position and behind it that are in one run of the table. `None` if
+    /// no record of the table begins there.
+    ///
+    /// The number of steps is logarithmic in that of the runs.
+    pub fn run_at(&self, at: u64) -> Option<RecordRun>
+        ensures { IfSome result (IsRestIn self.now at) }
     {
-        match place_of(&self.rows, at) {
-            Some(place) => Some(&self.rows[place].head),
-            None => None,
-        }
+        let payload = at.checked_add(LENGTH_FIELD as u64)?;
+        let behind = self.rows.partition_point(|row| row.first.at <= payload);
+        let row = self.rows.get(behind.checked_sub(1)?)?;
+        rest_of(row, payload)
     }
+}
+
+/// Returns the records of a run from the one whose payload is at this position on.
+#[tactic(auto, using(bk_hint::proofs::Checks::product_below))]
+fn rest_of(row: &ListedRun, payload: u64) -> Option<RecordRun>
+    ensures { IfSome result (IsRestOf row.now payload) }
+{
+    let before = payload.checked_sub(row.first.at)?;
+    let size = u64::from(row.first.size);
+    let place = before.checked_div(size)?;
+    if place > u64::from(row.again) || place * size != before {
+        return None;
+    }
+    let first = Key::new(row.first.key.ledger(), row.first.key.entry() + place)?;
+    Some(RecordRun {
+        first,
+        count: (row.again - place as u32).saturating_add(1),
+        size: row.first.size,
+    })
 }

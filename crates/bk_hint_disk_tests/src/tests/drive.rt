@@ -70,10 +70,10 @@ fn steps(alloc: Global) -> Result<Vec<Step>, AllocError> {
     Ok(steps)
 }
 
-/// Returns the answers as texts, and how many entries were read from logs. `None` if no store opens.
-fn told<D: LogDisk>(alloc: Global, disk: D) -> Option<(String, u32)> {
-    let steps = steps(alloc).ok()?;
-    let ran = drive(alloc, disk, SETTINGS, &[], &steps).ok()?;
+/// Returns the answers to steps as texts, and how many entries were read from logs. `None` if no
+/// store opens.
+pub(super) fn told<D: LogDisk>(alloc: Global, disk: D, steps: &[Step]) -> Option<(String, u32)> {
+    let ran = drive(alloc, disk, SETTINGS, &[], steps).ok()?;
     let mut read: u32 = 0;
     for answer in &ran.answers {
         if let Answer::Fetch(Ok(_)) = answer {
@@ -93,8 +93,9 @@ fn steps_over_hints_have_the_answers_of_the_logs(rt: HostRuntime) -> Result<(), 
     assert!(rt; make(alloc, &mut hinted).is_some());
     assert_eq!(rt; hint(alloc, &mut hinted), Some(3));
     let watch = hinted.unused_watch(alloc)?;
-    let (text, read) = told(alloc, plain).expect(&rt, "a store");
-    let (hinted_text, hinted_read) = told(alloc, hinted).expect(&rt, "a store");
+    let steps = steps(alloc)?;
+    let (text, read) = told(alloc, plain, &steps).expect(&rt, "a store");
+    let (hinted_text, hinted_read) = told(alloc, hinted, &steps).expect(&rt, "a store");
     assert_eq!(rt; hinted_text.as_str(), text.as_str());
     assert_eq!(rt; hinted_read, read);
     assert!(rt; read >= 8, "{read} entries read");
