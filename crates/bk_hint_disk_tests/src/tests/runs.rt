@@ -65,7 +65,9 @@ fn steps(alloc: Global) -> Result<Vec<Step>, AllocError> {
     steps.push(Step::Read(LedgerRead::Ledgers(0, 100)))?;
     for ledger in LEDGERS {
         steps.push(Step::Read(LedgerRead::Entries(ledger, 0, 10_000)))?;
-        for id in [39u64, 40, 79, 80, 99, 100, 101, 161, 220, 221, 222, 1127, 1168] {
+        for id in [
+            39u64, 40, 79, 80, 99, 100, 101, 161, 220, 221, 222, 1127, 1168,
+        ] {
             let Some(key) = Key::new(ledger, id) else {
                 return Err(AllocError);
             };
@@ -179,7 +181,12 @@ const OTHER: [(Runs, WhyNot); 8] = [
         WhyNot::OtherRecords,
     ),
     (
-        &[((1, 20, 8), 20), ((1, 0, 8), 20), ((2, 100, 8), 20), ((2, 7, 0), 1)],
+        &[
+            ((1, 20, 8), 20),
+            ((1, 0, 8), 20),
+            ((2, 100, 8), 20),
+            ((2, 7, 0), 1),
+        ],
         WhyNot::OtherRecords,
     ),
     // Another order.
@@ -189,7 +196,12 @@ const OTHER: [(Runs, WhyNot); 8] = [
     ),
     // Other sizes of the same sum.
     (
-        &[((1, 0, 9), 20), ((1, 20, 7), 20), ((2, 100, 8), 20), ((2, 7, 0), 1)],
+        &[
+            ((1, 0, 9), 20),
+            ((1, 20, 7), 20),
+            ((2, 100, 8), 20),
+            ((2, 7, 0), 1),
+        ],
         WhyNot::OtherRecords,
     ),
 ];
