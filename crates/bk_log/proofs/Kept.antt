@@ -24,7 +24,7 @@ use Rattle.bk_log.specs.Scanned.{window_scan, KeepsScan}
 use Rattle.bk_log.proofs.Aheads.{length-left}
 use Rattle.bk_log.proofs.Passes.{passed_none, passed_more, entry_at, all_given, all_foreign, rest_all, rest_stops, all_spelled, bad_stops, bad_at}
 
-no_fault : {X : Type 0} (o : Option X) (x : X) → o ≡ None → o ≡ Some x → ⊥
+pub no_fault : {X : Type 0} (o : Option X) (x : X) → o ≡ None → o ≡ Some x → ⊥
 no_fault o x none some = let e : None ≡ Some x = sym none ∙ some in cc
 
 same_some : {X : Type 0} (x y : X) → Some x ≡ Some y → x ≡ y
@@ -77,7 +77,7 @@ kept_new bytes honest sound window from end is headed ordered fits within =
     })
 
 -- bytes left after a record
-behind_record : (bytes payload : List ℕ) (at end : ℕ) → (b : BeginsWith (take (end - at) (drop at bytes)) payload) → 4 + length payload ≤ end - at
+pub behind_record : (bytes payload : List ℕ) (at end : ℕ) → (b : BeginsWith (take (end - at) (drop at bytes)) payload) → 4 + length payload ≤ end - at
     → take (end - (at + (4 + length payload))) (drop (at + (4 + length payload)) bytes) ≡ b.behind
 behind_record bytes payload at end b within =
     let size = 4 + length payload in
@@ -88,7 +88,7 @@ behind_record bytes payload at end b within =
 foreign_none : (payload : List ℕ) → None ≡ key_of payload → is_foreign payload ≡ true
 foreign_none payload is = ap (λ o. not (is_some o)) (sym is)
 
-foreign_some : (payload : List ℕ) (key : EntryKey) → Some key ≡ key_of payload → is_foreign payload ≡ false
+pub foreign_some : (payload : List ℕ) (key : EntryKey) → Some key ≡ key_of payload → is_foreign payload ≡ false
 foreign_some payload key is = ap (λ o. not (is_some o)) (sym is)
 
 -- invariant after a record was passed: an entry, or a foreign record
@@ -146,7 +146,7 @@ kept_entry window from end given foreign torn size ready room ended fault key ke
     (λ h. let (payload, (begins, (sized, is))) = front h in (payload, (begins, (sized, foreign_some payload key is)))))
 
 -- a record that begins in the part is a record of the log
-record_stands : (bytes payload : List ℕ) (at end : ℕ) → header_length ≤ at → BeginsWith (take (end - at) (drop at bytes)) payload
+pub record_stands : (bytes payload : List ℕ) (at end : ℕ) → header_length ≤ at → BeginsWith (take (end - at) (drop at bytes)) payload
     → HasRecordAt bytes (at + 4) payload
 record_stands bytes payload at end headed b =
     let place : at + 4 - 4 ≡ at = omega arith in

@@ -15,6 +15,7 @@ pub mod Aheads
 pub mod Ranges
 pub mod Passes
 pub mod Kept
+pub mod RunPasses
 pub mod OneRecord
 pub mod SizeSums
 pub mod Gains

@@ -9,6 +9,7 @@ mod front;
 mod laws;
 mod length;
 mod reading;
+mod runs;
 mod scanner;
 mod sizes;
 mod window;

@@ -1,5 +1,5 @@
-//! Scan of a part of a log, entry by entry. Each record before the position was returned or passed
-//! as foreign; an error and the end are final.
+//! Scan of a part of a log, entry by entry or by runs of entries. Each record before the position
+//! was returned or passed as foreign; an error and the end are final.
 
 ghost use Rattle.std.specs.Prelude.{◌≡◌, ◌+◌, ◌≤◌, ℕ, List, length, false, IsTrue, IsErrOf, IfSome, IfNone};
 ghost use Rattle.bk_disk.specs.Disk.{view_end};
@@ -9,6 +9,7 @@ ghost use Rattle.bk_log.specs.FoundRuns.{founds_of, AreEntriesOf, RunMoves};
 
 mod step;
 
+use crate::runs::size_of_run;
 use crate::window::Window;
 use crate::{Found, FoundRun, ScanFault};
 use bk_disk::LogView;
@@ -102,20 +103,39 @@ impl<'a, V: LogView> Scanner<'a, V> {
     /// `None` changes nothing, and says nothing of what comes next: `next` tells that.
     ///
     /// Reads nothing, and takes no time for each entry. The first record of the part is left to
-    /// `next`.
+    /// `next`. A run that the view tells of is ignored if it has no record, a size below 20 or above
+    /// 2^31 + 3 bytes, an entry id above 2^63 - 1, or more bytes than are left of the part.
     pub fn next_run(&mut self) -> Option<FoundRun>
         ensures none { IfNone result (self.new ≡ self.old) }
         ensures moves { IfSome result (λ run. RunMoves self.old run self.new) }
         ensures transition { IsTrue self.old.honest → IfSome result (λ run. AreEntriesOf self.old self.old.given (founds_of run)) }
     {
-        None
+        if !self.is_going() || !self.window.has_room() {
+            return None;
+        }
+        let at = self.window.at();
+        let left = self.end - at;
+        let run = self.window.run(left)?;
+        let size = size_of_run(&run, left)?;
+        self.window.skip(size);
+        self.given += u64::from(run.count);
+        let first = Found {
+            key: run.first,
+            at: at + 4,
+            size: run.size,
+        };
+        Some(FoundRun {
+            first,
+            count: run.count,
+        })
     }
 
     /// Returns the payload of an entry that this scan found, if its window has it; else `None`, and
     /// `fetch` reads it.
     ///
-    /// The window has the entry found last, unless it is longer than a window or cut by the
-    /// window's end. Reads nothing.
+    /// The window has the entry that `next` found last, unless it is longer than a window, cut by
+    /// the window's end, or its head was known to the view. It has an entry that `next_run` passed
+    /// only if it was read for an entry before. Reads nothing.
     pub fn payload(&self, found: &Found) -> Option<&[u8]>
         requires { 4 ≤ found.now.size }
         ensures long { IfSome result (λ payload. length payload.now + 4 ≡ found.now.size) }

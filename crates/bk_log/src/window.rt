@@ -1,13 +1,15 @@
 //! Reading ahead in a view: bytes are read in windows and parsed record by record.
 
-ghost use Rattle.std.specs.Prelude.{◌≡◌, ◌+◌, ◌-◌, ◌≤◌, ◌<◌, ◌^◌, false, IsTrue, IsErrOf, IfOk, IfErr, IfSome, OnOk, OnErr, IsOkUnless, length, take, drop};
+ghost use Rattle.std.specs.Prelude.{◌≡◌, ◌+◌, ◌-◌, ◌≤◌, ◌<◌, ◌^◌, false, IsTrue, IsErrOf, IfOk, IfErr, IfSome, OnOk, OnErr, IsOkUnless, length, take, drop, nat_lt};
 ghost use Rattle.bk_disk.specs.Disk.{IsInView};
 ghost use Rattle.bk_log.specs.Ahead.{HasRoomFor, IsRecord, ReadsLeft};
-ghost use Rattle.bk_log.specs.Fronts.{FitsIn};
+ghost use Rattle.bk_disk.specs.Runs.{IsRunAt};
+ghost use Rattle.bk_log.specs.Fronts.{FitsIn, HasWholeFirst};
 
 use crate::ScanFault;
 use crate::front::{Front, HEAD, front_of};
-use bk_disk::{DiskFault, LogView};
+use crate::length::is_payload_length;
+use bk_disk::{DiskFault, LogView, RecordRun};
 use bk_record::RECORD_HEAD;
 use std::alloc::Global;
 use std::marker::Model;
@@ -26,7 +28,8 @@ const FIRST: u64 = 512;
 /// bytes left then. If a longer buffer cannot be allocated, the old one is used.
 ///
 /// A view that has its bytes in memory lends them, from `lent_from` on; then only a head that lies
-/// in two blocks is copied.
+/// in two blocks is copied. A view may also know heads without reading them; a record whose head
+/// was known is not read, and is in the window only if it was read for a record before it.
 #[derive(Drop)]
 pub(crate) struct Window<'a, V: LogView> {
     view: &'a V,
@@ -95,9 +98,16 @@ impl<'a, V: LogView> Window<'a, V> {
         self.at
     }
 
+    /// Returns whether the buffer is allocated, as it is after the first record.
+    pub(crate) fn has_room(&self) -> bool
+        ensures { result ≡ nat_lt 0 self.now.room }
+    {
+        !self.read.is_empty()
+    }
+
     /// Parses the start of the `left` bytes from the position. If its head is neither lent nor in
-    /// the window, reads the head alone, and a window only for a record and if the view lends
-    /// nothing. Errors: `Disk` if the view is not sound, `Memory` at the first record, `Odd`.
+    /// the window nor known, reads the head alone, and a window only for a record and if the view
+    /// lends nothing. Errors: `Disk` if the view is not sound, `Memory` at the first record, `Odd`.
     pub(crate) fn front(&mut self, left: u64) -> Result<Front, ScanFault>
         requires { IsTrue self.old.honest → IsInView self.old.bytes self.old.at left }
         ensures same { self.new ≡ record self.old { ready = self.new.ready; room = self.new.room } }
@@ -116,10 +126,32 @@ impl<'a, V: LogView> Window<'a, V> {
             let head = &self.read[self.offset..self.offset + wanted];
             return Ok(front_of(head, left));
         }
+        if let Some(run) = self.run(left) {
+            let (size, key) = (run.size, Some(run.first));
+            return self.with_room(Front::Record { size, key }, left);
+        }
         if let Some(head) = self.borrow(wanted) {
             return self.with_room(front_of(head, left), left);
         }
         self.read_front(left)
+    }
+
+    /// Returns records at the position whose heads the view knows without reading them, if there
+    /// is one, and its size is legal and at most `left` bytes. Reads nothing.
+    pub(crate) fn run(&self, left: u64) -> Option<RecordRun>
+        ensures fits { IfSome result (HasWholeFirst left) }
+        ensures value { IsTrue self.now.honest → IfSome result (IsRunAt self.now.bytes self.now.at) }
+    {
+        let run = self.view.lend_run(self.at)?;
+        prove!(run.first.ledger() < 1 << 63);
+        prove!(run.first.entry() < 1 << 63);
+        if run.count == 0 || run.size < 4 || u64::from(run.size) > left {
+            return None;
+        }
+        if !is_payload_length(run.size - 4) {
+            return None;
+        }
+        Some(run)
     }
 
     /// Same as `front`, for a head that has to be read.
@@ -265,12 +297,12 @@ impl<'a, V: LogView> Window<'a, V> {
     }
 
     /// Advances by `size` bytes.
-    pub(crate) fn skip(&mut self, size: u32)
+    pub(crate) fn skip(&mut self, size: u64)
         requires { self.old.at + size < 2 ^ 64 }
         ensures { self.new ≡ record self.old { at = self.old.at + size; ready = self.old.ready - size } }
     {
-        self.at += u64::from(size);
-        self.offset += (size as usize).min(self.read.len() - self.offset);
+        self.at += size;
+        self.offset += size.min((self.read.len() - self.offset) as u64) as usize;
     }
 
     /// Returns the `count` bytes of the view from a position, if they are lent or the window has

@@ -9,6 +9,7 @@ mod fetches;
 mod hostile;
 mod large;
 mod narrow;
+mod runs;
 mod scans;
 mod texts;
 mod writes;

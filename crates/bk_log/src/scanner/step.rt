@@ -19,7 +19,7 @@ impl<'a, V: LogView> Scanner<'a, V> {
         let left = self.end - at;
         match self.window.front(left) {
             Ok(Front::Record { size, key }) => {
-                self.window.skip(size);
+                self.window.skip(u64::from(size));
                 let Some(key) = key else {
                     self.foreign += 1;
                     return None;

@@ -16,7 +16,7 @@ invariant_of-self g c =
     let fits = fits_here s.window s.end _ _ _ c.at-at.ensures shown c.in-Ok-Record.ensures.fits in
     let made = subst (HasRoomFor c.front.new.self.room) c.in-Ok-Record.field-0-is c.in-Ok-Record.ensures.room in
     subst (λ (w : Ahead). KeepsScan w s.from s.end s.given (s.foreign + 1) s.torn s.ended s.fault)
-    (sym (skipped_window s.window _ _ _ c.front.ensures.same c.skip.ensures))
+    (sym (skipped_window s.window _ _ _ c.front.ensures.same (rw c.from.ensures at c.skip.ensures)))
     (kept_foreign s.window _ _ _ _ _ _ _ _ _ _ c.self.invariant made going.0 going.1 fits.0 fits.1
     (front_here s.window s.end _ _ _ c.at-at.ensures shown c.in-Ok-Record.ensures.transition))
 
@@ -28,7 +28,7 @@ invariant_of-self-in-Ok-Record g c =
     let fits = fits_here s.window s.end _ _ _ c.at-at.ensures shown c.in-Ok-Record.ensures.fits in
     let made = subst (HasRoomFor c.front.new.self.room) c.in-Ok-Record.field-0-is c.in-Ok-Record.ensures.room in
     subst (λ (w : Ahead). KeepsScan w s.from s.end (s.given + 1) s.foreign s.torn s.ended s.fault)
-    (sym (skipped_window s.window _ _ _ c.front.ensures.same c.skip.ensures))
+    (sym (skipped_window s.window _ _ _ c.front.ensures.same (rw c.from.ensures at c.skip.ensures)))
     (kept_entry s.window _ _ _ _ _ _ _ _ _ _ _ c.self.invariant made going.0 going.1 fits.0 fits.1
     (front_here s.window s.end _ _ _ c.at-at.ensures shown c.in-Ok-Record.ensures.transition))
 

@@ -2,6 +2,7 @@ use Rattle.std.proofs.Common.{◌≡◌, take, drop, IfErr, refl, subst, ap, ◌
 use Rattle.bk_log.specs.Ahead.{Ahead, IsRecord}
 use Rattle.bk_log.specs.declared.fault.ScanFault.TheVariants.{Memory}
 use Rattle.bk_log.proofs.Aheads.{length-left, window_head, head_left, shows_lent}
+use Rattle.bk_log.proofs.RunPasses.{first_in_run}
 use Rattle.bk_log.proofs.window.Window.front.Goals as goal
 
 pub returns-then-wanted-len-clause-transition : goal.returns-then-wanted-len-clause-transition
@@ -26,3 +27,8 @@ returns-in-Some-borrow-clause-transition g c = λ h.
     c.with_room-in-Some-borrow.ensures.value
     (subst (λ (a : Ahead). IfErr c.with_room-in-Some-borrow.result (λ fault. (fault ≡ Memory) × (a.room ≡ 0) × IsRecord c.front_of-in-Some-borrow.result))
     c.in-Some-borrow.ensures.same c.with_room-in-Some-borrow.ensures.err)
+
+pub returns-in-Some-run-clause-transition : goal.returns-in-Some-run-clause-transition
+returns-in-Some-run-clause-transition g c = λ h.
+    shows_lent _ _ _ _ (first_in_run _ _ _ c.in-Some-run.run' (c.requires h) (c.in-Some-run.ensures.value h) c.in-Some-run.ensures.fits)
+    c.with_room-in-Some-run.ensures.value c.with_room-in-Some-run.ensures.err

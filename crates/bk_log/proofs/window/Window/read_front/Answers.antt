@@ -1,7 +1,7 @@
-use Rattle.std.proofs.Common.{refl, sym, ◌∙◌, subst, arith, ap}
+use Rattle.std.proofs.Common.{refl, sym, ◌∙◌, subst, ap}
 use Rattle.bk_log.specs.Ahead.{Ahead}
 use Rattle.bk_log.specs.Fronts.{IsFront}
-use Rattle.bk_log.proofs.Aheads.{length-left, window_head, head_read, no_room}
+use Rattle.bk_log.proofs.Aheads.{length-left, head_read, no_room}
 use Rattle.bk_log.proofs.window.Window.read_front.Goals as goal
 use Rattle.bk_log.proofs.window.Window.read_front.Goals.{in-Record+in_default-make+in_ok-read_on}
 use Rattle.bk_log.proofs.window.Window.read_front.Goals.{in_default}
