@@ -3,8 +3,8 @@ use Rattle.std.proofs.Common.{◌≡◌, ℕ, ◌+◌, ◌-◌, Bool, true, fals
 use Rattle.std.specs.Option.{option_map}
 use Rattle.std.specs.Cmp.{nat_cmp_total, unsigned_tied}
 use Rattle.std.specs.FinMap.{get, get-insert, get-remove}
-use Rattle.bk_accounts.specs.Account.{Account, fresh, with_room, with_size, with_dead_size, with_name, without_name}
-use Rattle.bk_accounts.specs.Book.{Book, total_in, named_in, book_with, after_open, after_ready, after_count, after_count_dead, after_name, after_unname}
+use Rattle.bk_accounts.specs.Account.{Account, fresh, with_room, with_size, with_dead_size, with_name, with_names, without_name}
+use Rattle.bk_accounts.specs.Book.{Book, total_in, named_in, book_with, after_open, after_ready, after_count, after_count_dead, after_name, after_names, after_unname}
 use Rattle.bk_accounts.specs.Book.{after_drop}
 use Rattle.bk_accounts.proofs.Books.{get-changed}
 
@@ -44,12 +44,19 @@ total_in-after_ready book log ledger q = number-kept (λ a. a.total) (with_room 
 pub total_in-after_name : (book : Book) (log q : ℕ) → total_in (after_name book log) q ≡ total_in book q
 total_in-after_name book log q = number-kept (λ a. a.total) with_name (λ _. refl) book log q
 
+pub total_in-after_names : (book : Book) (log n q : ℕ) → total_in (after_names book log n) q ≡ total_in book q
+total_in-after_names book log n q = number-kept (λ a. a.total) (with_names n) (λ _. refl) book log q
+
 pub total_in-after_unname : (book : Book) (log q : ℕ) → total_in (after_unname book log) q ≡ total_in book q
 total_in-after_unname book log q = number-kept (λ a. a.total) without_name (λ _. refl) book log q
 
 pub named_in-after_name : (book : Book) (log q : ℕ)
     → named_in (after_name book log) q ≡ option_map (λ named. if q == log then named + 1 else named) (named_in book q)
 named_in-after_name book log q = number-changed (λ a. a.named) with_name (λ n. n + 1) (λ _. refl) book log q
+
+pub named_in-after_names : (book : Book) (log n q : ℕ)
+    → named_in (after_names book log n) q ≡ option_map (λ named. if q == log then named + n else named) (named_in book q)
+named_in-after_names book log n q = number-changed (λ a. a.named) (with_names n) (λ m. m + n) (λ _. refl) book log q
 
 pub named_in-after_unname : (book : Book) (log q : ℕ)
     → named_in (after_unname book log) q ≡ option_map (λ named. if q == log then named - 1 else named) (named_in book q)

@@ -8,6 +8,7 @@ pub mod FromScratch
 pub mod Histories
 pub mod Listings
 pub mod LogAccounts
+pub mod ManyCalls
 pub mod Maps
 pub mod Ratios
 pub mod Rooms

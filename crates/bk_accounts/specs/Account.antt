@@ -58,6 +58,10 @@ with_dead_size size account = record account { total = account.total + size }
 abbrev pub with_name : Account → Account
 with_name account = record account { named = account.named + 1 }
 
+-- with `count` more names
+abbrev pub with_names : ℕ → Account → Account
+with_names count account = record account { named = account.named + count }
+
 -- with one name fewer
 abbrev pub without_name : Account → Account
 without_name account = record account { named = account.named - 1 }

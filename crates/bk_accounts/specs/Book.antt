@@ -6,7 +6,7 @@ use Rattle.std.specs.FinMap as finmap
 use Rattle.std.specs.Option.{option_map, option_map_or, unwrap_or}
 use Rattle.std.specs.Ordering.{nat_cmp}
 use Rattle.bk_accounts.specs.Account.{Account, account_code, remaining_size, has_room, fresh, with_room, with_size, with_dead_size, with_name, without_name}
-use Rattle.bk_accounts.specs.Account.{without_size}
+use Rattle.bk_accounts.specs.Account.{with_names, without_size}
 
 -- account of each open log, by log id
 abbrev pub Book : Type 0
@@ -71,6 +71,10 @@ after_count_dead book log size = book_with book log (with_dead_size size)
 
 abbrev pub after_name : Book → ℕ → Book
 after_name book log = book_with book log with_name
+
+-- the effect of `count` calls of `name`
+abbrev pub after_names : Book → ℕ → ℕ → Book
+after_names book log count = book_with book log (with_names count)
 
 abbrev pub after_unname : Book → ℕ → Book
 after_unname book log = book_with book log without_name

@@ -44,7 +44,7 @@ impl Model for Accounts {
 
 impl Accounts {
     ghost use Rattle.bk_accounts.specs.Book.{HasAccount, IsNotOpen, IsReady, total_in, remaining_in, named_in, total_at, remaining_at, after_open};
-    ghost use Rattle.bk_accounts.specs.Book.{after_ready, after_count, after_count_dead, after_name, after_unname, after_forget, after_drop};
+    ghost use Rattle.bk_accounts.specs.Book.{after_ready, after_count, after_count_dead, after_name, after_names, after_unname, after_forget, after_drop};
 
     /// Returns accounts without an open log. Does not allocate; later calls use `alloc`.
     pub fn new(alloc: Global) -> Accounts
@@ -137,6 +137,19 @@ impl Accounts {
     {
         if let Some(account) = self.logs.get_mut(&log) {
             account.name();
+        }
+    }
+
+    /// Counts `count` more index entries that point into the log, as that number of calls of `name`
+    /// does. Does nothing if the log is not open. Does not allocate.
+    ///
+    /// Requires a number of names below 2^64.
+    pub fn name_many(&mut self, log: u32, count: u64)
+        requires { IfSome (named_in self.old log) (λ named. named + count < 2 ^ 64) }
+        ensures { self.new ≡ after_names self.old log count }
+    {
+        if let Some(account) = self.logs.get_mut(&log) {
+            account.name_many(count);
         }
     }
 

@@ -36,7 +36,7 @@ impl Model for LogAccount {
 }
 
 impl LogAccount {
-    ghost use Rattle.bk_accounts.specs.Account.{fresh, has_room, remaining_size, with_room, with_size, with_dead_size, with_name, without_name, without_size};
+    ghost use Rattle.bk_accounts.specs.Account.{fresh, has_room, remaining_size, with_room, with_size, with_dead_size, with_name, with_names, without_name, without_size};
 
     /// Returns an empty account. Does not allocate.
     pub(crate) fn new(alloc: Global) -> LogAccount
@@ -126,6 +126,14 @@ impl LogAccount {
         ensures { self.new ≡ with_name self.old }
     {
         self.named += 1;
+    }
+
+    /// Counts `count` more index entries.
+    pub(crate) fn name_many(&mut self, count: u64)
+        requires { self.old.named + count < 2 ^ 64 }
+        ensures { self.new ≡ with_names count self.old }
+    {
+        self.named += count;
     }
 
     /// Counts one index entry fewer.

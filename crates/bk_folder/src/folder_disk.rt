@@ -5,7 +5,7 @@ ghost use Rattle.std.specs.FinMap as map;
 ghost use Rattle.bk_folder.specs.Failures.{failures_of};
 
 use crate::ignored::Ignored;
-use bk_disk::{DirDisk, DirView, DiskFault, LogDisk, LogView};
+use bk_disk::{DirDisk, DirView, DiskFault, LogDisk, LogView, RecordRun};
 use bk_hint_disk::{HintedDisk, UnusedWatch};
 use bk_hint_folder::FolderHints;
 use bk_hint_view::HintedView;
@@ -100,6 +100,10 @@ impl LogView for FolderView {
 
     fn lend(&self, at: u64) -> &[u8] {
         self.view.lend(at)
+    }
+
+    fn lend_run(&self, at: u64) -> Option<RecordRun> {
+        self.view.lend_run(at)
     }
 }
 

@@ -3,7 +3,7 @@
 ghost use Rattle.std.specs.Prelude.{[], false};
 
 use crate::folder_disk::FolderView;
-use bk_disk::{DiskFault, LogView};
+use bk_disk::{DiskFault, LogView, RecordRun};
 use bk_messages::FailedCalls;
 
 /// A view of a log of an `OpeningDisk`: one of a `FolderDisk`, whose failed reads are among the
@@ -35,5 +35,9 @@ impl LogView for OpeningView {
 
     fn lend(&self, at: u64) -> &[u8] {
         self.view.lend(at)
+    }
+
+    fn lend_run(&self, at: u64) -> Option<RecordRun> {
+        self.view.lend_run(at)
     }
 }

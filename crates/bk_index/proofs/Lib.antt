@@ -18,3 +18,4 @@ pub mod PackedPairs
 pub mod PackedSearch
 pub mod PackedPlaces
 pub mod Halves
+pub mod Runs

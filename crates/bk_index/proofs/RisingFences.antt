@@ -1,8 +1,9 @@
 -- The fences of pages rise, so a test of keys partitions them: the page of a key.
-use Rattle.std.proofs.Common.{◌≡◌, inl, inr, ℕ, zero, suc, ◌<◌, ◌≤◌, ◌-◌, Bool, true, false, List, [], ◌∷◌, ◌++◌, length, get_or, map, refl, sym, subst, ◌∙◌, arith}
+use Rattle.std.proofs.Common.{◌≡◌, inl, inr, ℕ, zero, suc, ◌<◌, ◌≤◌, ◌+◌, ◌-◌, Bool, true, false, List, [], ◌∷◌, ◌++◌, length, get_or, map, refl, sym, subst, ◌∙◌, arith}
 use Rattle.std.specs.declared.cmp.Ordering.TheVariants.{Less}
 use Rattle.std.specs.Ordering.{is_le}
 use Rattle.std.specs.Bool.{IsTrue}
+use mathlib.Core.Bool.{false≢true}
 use Rattle.std.specs.List.{AllByRecursion, All}
 use Rattle.std.specs.List.Sorted.{IsPartitionedBy, IsPartitionPoint, IsStrictlySortedBy}
 use Rattle.std.specs.FinMap.{is_sorted}
@@ -93,3 +94,26 @@ all_before p fences last parted some read passes = elim (slice_get_cases fences 
 
 pub is_downward_key : (key : EntryKey) → IsDownward (λ f. is_le (key_cmp f key))
 is_downward_key key a b less passes = rw (below_key key a b less passes) refl
+
+-- what a test says of a fence that was read, it says of it by any default
+pub other_read : (p : EntryKey → Bool) (fences : List EntryKey) (n : ℕ) (fence : EntryKey) (b : Bool) → n < length fences
+    → fence ≡ get_or fences n fence → p fence ≡ b → (d : EntryKey) → p (get_or fences n d) ≡ b
+other_read p fences n fence b within read is d = elim (slice_get_cases fences n).1 [
+  | inl (held, there, held_is, at) ↦
+      subst (λ f. p f ≡ b) (read ∙ get_or_from_slice_get fences n held fence held_is ∙ sym (get_or_from_slice_get fences n held d held_is)) is
+  | inr (past, none) ↦ absurd (omega (arith, within, past))
+]
+
+-- if a fence passes the test and the next one does not, the next one is the point
+pub point_behind : (p : EntryKey → Bool) (fences : List EntryKey) (n : ℕ) (fence : EntryKey) → IsPartitionedBy p fences → n < length fences
+    → fence ≡ get_or fences n fence → p fence ≡ true → (n + 1 < length fences → (d : EntryKey) → p (get_or fences (n + 1) d) ≡ false)
+    → IsPartitionPoint (λ f. p f ≡ true) (λ f. p f ≡ false) fences (n + 1)
+point_behind p fences n fence parted within read passes fails = (
+  λ i d inside before. parted i n d (omega arith) (omega arith) (other_read p fences n fence true within read passes d),
+  λ i d from inside. failed i d from inside (p (get_or fences i d)) refl,
+)
+  where
+    failed : (i : ℕ) (d : EntryKey) → n + 1 ≤ i → i < length fences → (b : Bool) → p (get_or fences i d) ≡ b → p (get_or fences i d) ≡ false
+    failed i d from inside false is = is
+    failed i d from inside true is =
+        absurd (false≢true (sym (fails (omega (arith, from, inside)) d) ∙ parted (n + 1) i d (omega (arith, from)) inside is))

@@ -13,6 +13,10 @@ use std::alloc::{AllocError, Global};
 use std::marker::Model;
 
 mod in_order;
+mod runs;
+
+// No page has this number: a search hint that names none.
+const NO_PAGE: usize = usize::MAX;
 
 /// Finite map from keys to locations.
 #[derive(Debug, Drop)]
@@ -92,7 +96,24 @@ impl Index {
         ensures err { OnErr result (self.new ≡ self.old) }
         ensures held { IsSome (map.get self.old key) → IsOk result }
     {
-        match self.pages.insert(key, location)? {
+        let mut page = NO_PAGE;
+        self.insert_near(key, location, &mut page)
+    }
+
+    // Same as `insert`. Tries the page of this number first, and sets it to that of the key.
+    #[inline]
+    fn insert_near(
+        &mut self,
+        key: Key,
+        location: Location,
+        page: &mut usize,
+    ) -> Result<Option<Location>, AllocError>
+        ensures ok { OnOk result (self.new ≡ map.insert self.old key location) }
+        ensures before { IfOk result (λ before. before ≡ map.get self.old key) }
+        ensures err { OnErr result (self.new ≡ self.old) }
+        ensures held { IsSome (map.get self.old key) → IsOk result }
+    {
+        match self.pages.insert(key, location, page)? {
             Some(before) => Ok(Some(before)),
             None => {
                 self.len += 1;

@@ -97,6 +97,24 @@ impl Pages {
         self.home(key)
     }
 
+    // Same as `home_for`, but tries a page first: any number can be given.
+    #[inline]
+    fn home_near(&self, key: &Key, page: usize) -> usize
+        requires { IsTrue (is_sorted key_cmp (all_pairs self.now)) }
+        ensures home { IsHome key.now self.now result }
+        ensures bound { 0 < length self.now → result < length self.now }
+    {
+        let count = self.fences.len();
+        if page >= count || self.fences[page] > *key {
+            return self.home_for(key);
+        }
+        let next = page + 1;
+        if next < count && self.fences[next] <= *key {
+            return self.home_for(key);
+        }
+        page
+    }
+
     // Returns the location of a key if it is at the place `near`; otherwise `None`.
     #[inline]
     fn get_here(&self, key: &Key, near: &Near) -> Option<Location>
@@ -135,11 +153,13 @@ impl Pages {
     }
 
     /// Sets the location of a key and returns the one before. Fails only for a new key, and then
-    /// leaves the pages unchanged.
+    /// leaves the pages unchanged. Tries the page `near` first, and sets it to the one that the key
+    /// goes to, before a split.
     pub(crate) fn insert(
         &mut self,
         key: Key,
         location: Location,
+        near: &mut usize,
     ) -> Result<Option<Location>, AllocError>
         requires { IsTrue (is_sorted key_cmp (all_pairs self.old)) }
         ensures ok { OnOk result (all_pairs self.new ≡ put key_cmp key location (all_pairs self.old)) }
@@ -152,7 +172,8 @@ impl Pages {
             self.begin(key, location)?;
             return Ok(None);
         }
-        let at = self.home_for(&key);
+        let at = self.home_near(&key, *near);
+        *near = at;
         if self.push(at, &key, location)? {
             return Ok(None);
         }

@@ -11,7 +11,7 @@ use Rattle.bk_log.specs.declared.found.Found.{Found}
 use Rattle.bk_log.specs.FoundRuns.{found_behind, founds_from}
 use Rattle.bk_index.specs.Runs.{with_run}
 use Rattle.bk_accounts.specs.Book.{Book, after_ready, after_count, after_count_dead}
-use Rattle.bk_accounts.proofs.BookLaws.{counts_add, counts_dead_add}
+use Rattle.bk_accounts.proofs.ManyCalls.{counts_add, counts_dead_add}
 use Rattle.bk_store.specs.Found.{with_entry, with_entries}
 use Rattle.bk_store.specs.declared.open.tally.Tally.{Tally}
 
@@ -26,9 +26,13 @@ live_run log t f n = record t {
   accounts = after_count (after_ready t.accounts log f.key.ledger) log f.key.ledger (n * f.size);
 }
 
+-- the accounts after so many bytes of deleted ledgers
+abbrev dead_after : ℕ → Tally → ℕ → Tally
+dead_after log t bytes = record t { accounts = after_count_dead t.accounts log bytes }
+
 -- the accounts after a run of a deleted ledger
 abbrev pub dead_run : ℕ → Tally → Found → ℕ → Tally
-dead_run log t f n = record t { accounts = after_count_dead t.accounts log (n * f.size) }
+dead_run log t f n = dead_after log t (n * f.size)
 
 module _ (log : ℕ) (dead : Ledgers) (ledger : ℕ) where
   abbrev counted : Places → Book → ℕ → Tally
@@ -55,9 +59,9 @@ module _ (log : ℕ) (dead : Ledgers) (ledger : ℕ) where
     entries_live : (n : ℕ) (index : Places) (book : Book) (bytes : ℕ) (f : Found) → f.key.ledger ≡ ledger
         → with_entries log (counted index book bytes) (founds_from f n)
         ≡ counted (with_run index f.key (place_in log f) f.size n) book (bytes + n * f.size)
-    entries_live zero index book bytes f same = let none : bytes ≡ bytes + 0 = omega arith in ap (counted index book) none
+    entries_live zero index book bytes f same = let none : bytes ≡ bytes + 0 * f.size = omega arith in ap (counted index book) none
     entries_live (suc n) index book bytes f same =
-        let count : bytes + f.size + n * f.size ≡ bytes + (f.size + n * f.size) = omega arith in
+        let count : bytes + f.size + n * f.size ≡ bytes + suc n * f.size = omega arith in
         let first : with_entry log (counted index book bytes) f ≡ counted (finite.insert index f.key (place_in log f)) book (bytes + f.size) =
         entry_live index (after_count (after_ready book log ledger) log ledger bytes) f same
         ∙ ap (λ (b : Book). record { index = finite.insert index f.key (place_in log f); accounts = b; dead = dead })
@@ -82,10 +86,10 @@ module _ (log : ℕ) (dead : Ledgers) (ledger : ℕ) where
         → with_entries log (record { index = index; accounts = after_count_dead book log bytes; dead = dead }) (founds_from f n)
         ≡ record { index = index; accounts = after_count_dead book log (bytes + n * f.size); dead = dead }
     entries_dead zero index book bytes f same =
-        let none : bytes ≡ bytes + 0 = omega arith in
+        let none : bytes ≡ bytes + 0 * f.size = omega arith in
         ap (λ (b : ℕ). record { index = index; accounts = after_count_dead book log b; dead = dead }) none
     entries_dead (suc n) index book bytes f same =
-        let count : bytes + f.size + n * f.size ≡ bytes + (f.size + n * f.size) = omega arith in
+        let count : bytes + f.size + n * f.size ≡ bytes + suc n * f.size = omega arith in
         let first : with_entry log (record { index = index; accounts = after_count_dead book log bytes; dead = dead }) f
         ≡ record { index = index; accounts = after_count_dead book log (bytes + f.size); dead = dead } =
         entry_dead index (after_count_dead book log bytes) f same
@@ -98,14 +102,20 @@ module _ (log : ℕ) (dead : Ledgers) (ledger : ℕ) where
 pub run_live : (log : ℕ) (t : Tally) (f : Found) (n : ℕ) → 0 < n → set.contains t.dead f.key.ledger ≡ false
     → live_run log t f n ≡ with_entries log t (founds_from f n)
 run_live log t f zero some alive = absurd (omega arith)
-run_live log t f (suc n) some alive = sym
+run_live log t f (suc n) some alive =
+    let count : f.size + n * f.size ≡ suc n * f.size = omega arith in
+    sym
     (ap (λ (u : Tally). with_entries log u (founds_from (found_behind f) n)) (entry_live log t.dead f.key.ledger alive t.index t.accounts f refl)
-    ∙ entries_live log t.dead f.key.ledger alive n (finite.insert t.index f.key (place_in log f)) t.accounts f.size (found_behind f) refl)
+    ∙ entries_live log t.dead f.key.ledger alive n (finite.insert t.index f.key (place_in log f)) t.accounts f.size (found_behind f) refl
+    ∙ ap (counted log t.dead f.key.ledger (with_run t.index f.key (place_in log f) f.size (suc n)) t.accounts) count)
 
 -- a run of a deleted ledger
 pub run_dead : (log : ℕ) (t : Tally) (f : Found) (n : ℕ) → 0 < n → set.contains t.dead f.key.ledger ≡ true
     → dead_run log t f n ≡ with_entries log t (founds_from f n)
 run_dead log t f zero some gone = absurd (omega arith)
-run_dead log t f (suc n) some gone = sym
+run_dead log t f (suc n) some gone =
+    let count : f.size + n * f.size ≡ suc n * f.size = omega arith in
+    sym
     (ap (λ (u : Tally). with_entries log u (founds_from (found_behind f) n)) (entry_dead log t.dead f.key.ledger gone t.index t.accounts f refl)
-    ∙ entries_dead log t.dead f.key.ledger gone n t.index t.accounts f.size (found_behind f) refl)
+    ∙ entries_dead log t.dead f.key.ledger gone n t.index t.accounts f.size (found_behind f) refl
+    ∙ ap (λ (b : ℕ). dead_after log t b) count)

@@ -56,6 +56,9 @@ total_entry log t found total is =
 bytes_first : (found : Found) (founds : List Found) → bytes_found (found ∷ founds) ≡ found.size + bytes_found founds
 bytes_first found founds = sum_by-cons (λ (f : Found). f.size) found founds
 
+nothing_plus : (n : ℕ) → n ≡ 0 + n
+nothing_plus n = omega arith
+
 plus_nothing : (n : ℕ) → n ≡ n + 0
 plus_nothing n = omega arith
 
@@ -78,7 +81,7 @@ entries_append log t [] more = refl
 entries_append log t (f ∷ founds) more = entries_append log (with_entry log t f) founds more
 
 bytes_append : (founds more : List Found) → bytes_found (founds ++ more) ≡ bytes_found founds + bytes_found more
-bytes_append [] more = refl
+bytes_append [] more = nothing_plus (bytes_found more)
 bytes_append (f ∷ founds) more =
     omega (arith, bytes_first f (founds ++ more), bytes_first f founds, bytes_append founds more)
 
@@ -94,9 +97,10 @@ length-founds_from f zero = refl
 length-founds_from f (suc n) = ap suc (length-founds_from (found_behind f) n)
 
 bytes-founds_from : (f : Found) (n : ℕ) → bytes_found (founds_from f n) ≡ n * f.size
-bytes-founds_from f zero = refl
+bytes-founds_from f zero = omega arith
 bytes-founds_from f (suc n) =
-    bytes_first f (founds_from (found_behind f) n) ∙ ap (λ m. f.size + m) (bytes-founds_from (found_behind f) n)
+    let more : f.size + n * f.size ≡ suc n * f.size = omega arith in
+    bytes_first f (founds_from (found_behind f) n) ∙ ap (λ m. f.size + m) (bytes-founds_from (found_behind f) n) ∙ more
 
 -- entries of a part that go on where the founds end
 founds_more : (s : Scan) (records : List (ℕ × List ℕ)) (place : ℕ) (founds more : List Found) → entries_in s.from (part_of s) ≡ records

@@ -9,12 +9,13 @@ use Rattle.std.specs.FinSet as set
 use Rattle.bk_record.specs.Key.{EntryKey}
 use Rattle.bk_record.specs.Location.{Place}
 use Rattle.bk_log.specs.declared.found.Found.{Found}
-use Rattle.bk_accounts.specs.Book.{Book, named_in, total_in, after_open, after_ready, after_count, after_count_dead, after_name}
+use Rattle.bk_accounts.specs.Book.{Book, named_in, total_in, after_open, after_ready, after_count, after_count_dead, after_name, after_names}
 use Rattle.bk_accounts.specs.Sums.{Measure, AreSums}
 use Rattle.bk_accounts.proofs.CallerLaws.{sums_open, sums_ready, sums_count, sums_count_dead, sums_name}
-use Rattle.bk_accounts.proofs.BookLaws.{named_in-after_name, total_in-after_ready}
+use Rattle.bk_accounts.proofs.BookLaws.{named_in-after_name, named_in-after_names, total_in-after_ready}
+use Rattle.bk_accounts.proofs.ManyCalls.{names_more, names_none}
 use Rattle.bk_accounts.proofs.Listings.{swapped}
-use Rattle.bk_store.specs.Found.{LogRead, with_entry, with_entries, with_read, with_reads, named_by}
+use Rattle.bk_store.specs.Found.{LogRead, with_entry, with_entries, with_read, with_reads, named_by, AreUnnamed}
 use Rattle.bk_store.specs.declared.open.tally.Tally.{Tally}
 
 -- an entry that was found is measured by its ledger and the size of its record
@@ -187,3 +188,55 @@ module _ {pairs left : List (EntryKey × Place)} {old now : Book} {e : EntryKey 
     within = within_name so_far.passed now e.1.log so_far.within;
     named = so_far.named;
   }
+
+-- ---- the same, with the names of adjacent pairs of one log counted together
+
+none_within : (o : Option ℕ) → IfSome o (λ named. named ≡ 0) → IfSome o (λ named. named ≤ 0)
+none_within None none = tt
+none_within (Some n) none = omega (arith, none)
+
+-- So many pairs of a log were passed that its account does not count yet.
+pub record IsCounting (pairs : List (EntryKey × Place)) (old : Book) (left : List (EntryKey × Place)) (log count : ℕ) (now : Book) : Type 0 where
+  pub naming : IsNaming pairs old left (after_names now log count)
+  pub few : count + length left ≤ length pairs
+
+pub counting_first : (pairs : List (EntryKey × Place)) (book : Book) (log : ℕ) → AreUnnamed book → IsCounting pairs book pairs log 0 book
+counting_first pairs book log unnamed = record {
+  naming = subst (IsNaming pairs book pairs) (sym (names_none book log)) (record {
+    passed = 0;
+    counted = omega arith;
+    within = λ q. none_within (named_in book q) (unnamed q);
+    named = refl;
+  });
+  few = omega arith;
+}
+
+counted_within : (log count most : ℕ) (o : Option ℕ) → most < 2 ^ 64
+    → IfSome (option_map (λ named. if log == log then named + count else named) o) (λ named. named ≤ most) → IfSome o (λ named. named + count < 2 ^ 64)
+counted_within log count most None few within = tt
+counted_within log count most (Some n) few within =
+    let here : n + count ≤ most = subst (λ b. (if b then n + count else n) ≤ most) (eq-eqb log log refl) within in omega (arith, few, here)
+
+module _ {pairs left : List (EntryKey × Place)} {old now : Book} {log count : ℕ} where
+  pub counting_fits : IsCounting pairs old left log count now → length pairs < 2 ^ 64 → IfSome (named_in now log) (λ named. named + count < 2 ^ 64)
+  counting_fits so_far few =
+      let naming = so_far.naming in
+      counted_within log count naming.passed (named_in now log) (omega (arith, few, naming.counted))
+      (subst (λ o. IfSome o (λ named. named ≤ naming.passed)) (named_in-after_names now log count log) (naming.within log))
+
+  pub counting_same : (e : EntryKey × Place) → IsCounting pairs old (e ∷ left) log count now → e.1.log ≡ log
+      → IsCounting pairs old left log (count + 1) now
+  counting_same e so_far same = record {
+    naming = subst (IsNaming pairs old left) (ap (after_name (after_names now log count)) same ∙ names_more now log count) (naming_on so_far.naming);
+    few = omega (arith, so_far.few);
+  }
+
+  pub counting_other : (e : EntryKey × Place) → IsCounting pairs old (e ∷ left) log count now
+      → IsCounting pairs old left e.1.log 1 (after_names now log count)
+  counting_other e so_far =
+      let book = after_names now log count in
+      record {
+        naming = subst (IsNaming pairs old left) (ap (λ b. after_name b e.1.log) (sym (names_none book e.1.log)) ∙ names_more book e.1.log 0)
+            (naming_on so_far.naming);
+        few = omega (arith, so_far.few);
+      }

@@ -1,6 +1,6 @@
 //! Adding what a scan finds to an index: the rule of an opening and of a rebuild.
 
-ghost use Rattle.std.specs.Prelude.{◌≡◌, ◌<◌, ◌≤◌, ◌^◌, not, OnOk, OnErr, IfOk};
+ghost use Rattle.std.specs.Prelude.{◌≡◌, ◌+◌, ◌<◌, ◌≤◌, ◌^◌, not, OnOk, OnErr, IfOk};
 ghost use Rattle.std.specs.FinSet as set;
 ghost use Rattle.bk_log.specs.FoundRuns.{bytes_of_run};
 ghost use Rattle.bk_index.specs.Runs.{with_run};

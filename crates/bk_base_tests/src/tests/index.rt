@@ -10,6 +10,7 @@ use std::test::Fail;
 
 mod pages;
 mod plain;
+mod runs;
 
 fn key(ledger: u64, entry: u64) -> Key
     requires ledger { ledger < 2 ^ 63 }

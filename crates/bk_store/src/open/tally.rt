@@ -102,15 +102,16 @@ pub(crate) fn name_each(index: &Index, accounts: &mut Accounts)
     let _keys = index.len();
     // Pairs that are adjacent are mostly of one log.
     let mut log = 0;
-    let mut count = 0;
+    let mut count = 0u64;
     for (_, place) in index.walk() {
         let of = place.log();
-        if of != log {
+        if of == log {
+            count += 1;
+        } else {
             accounts.name_many(log, count);
             log = of;
-            count = 0;
+            count = 1;
         }
-        count += 1;
     }
     accounts.name_many(log, count);
 }

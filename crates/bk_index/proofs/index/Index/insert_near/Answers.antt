@@ -1,7 +1,7 @@
 use Rattle.std.proofs.Common.{◌+◌, length, sym, ap, ◌∙◌, arith}
 use mathlib.Core.Bool.{false≢true}
 use Rattle.bk_index.proofs.CountedPages.{get_seen, insert_seen, counted_put, length_new, length_held}
-use Rattle.bk_index.proofs.index.Index.insert.Goals as goal
+use Rattle.bk_index.proofs.index.Index.insert_near.Goals as goal
 
 -- the allocation failed, so the key is new
 pub returns-in_err-before-clause-held : goal.returns-in_err-before-clause-held
