@@ -18,7 +18,7 @@ use Rattle.bk_hint.specs.declared.listed.Listed.{Listed}
 use Rattle.bk_hint.proofs.Fields.{cut_4, cut_8}
 use Rattle.bk_hint_view.specs.Rows.{head_of, AreRecords}
 use Rattle.bk_hint_disk.specs.declared.sample.Probe.{Probe}
-use Rattle.bk_hint_disk.specs.Usable.{spacing_of, AreProbesOf, HasRecordAt, IsHead, IsMet, IsNoted, IsRecordIn, IsSample}
+use Rattle.bk_hint_disk.specs.Usable.{spacing_of, AreProbesOf, HasListedRecord, IsHead, IsMet, IsNoted, IsRecordIn, IsSample}
 
 -- ---- one record
 
@@ -85,7 +85,7 @@ noted entries place at old new entry is placed pushed = λ file each.
 -- if a file has the records of the probes, it has those of the entries at the multiples of the
 -- spacing before a place
 abbrev pub AreEven : List Listed → ℕ → ℕ → List Probe → Type 0
-AreEven entries spacing place probes = (file : List ℕ) → All (IsMet file) probes → (k : ℕ) → k < place → k % spacing ≡ 0 → HasRecordAt file entries k
+AreEven entries spacing place probes = (file : List ℕ) → All (IsMet file) probes → (k : ℕ) → k < place → k % spacing ≡ 0 → HasListedRecord file entries k
 
 -- the probes so far: those of the multiples of the spacing before a place, which is the next one
 -- unless it is past the last place
@@ -109,12 +109,12 @@ pub samples_more : (entries : List Listed) (spacing last place next : ℕ) (prob
 samples_more entries spacing last place next probes now before fits is noted samples = record {
   even = λ file each k below divides.
       let parts = noted file each in
-      elim (leb (k + 1) place) as (λ b. leb (k + 1) place ≡ b → HasRecordAt file entries k) [
+      elim (leb (k + 1) place) as (λ b. leb (k + 1) place ≡ b → HasListedRecord file entries k) [
         | true ↦ λ yes. samples.even file parts.0 k (omega (arith, leb-true (k + 1) place yes)) divides
         | false ↦ λ no.
             let above : place ≤ k = omega (arith, leb-false (k + 1) place no) in
             let less : k < place + spacing = omega arith in
-            subst (HasRecordAt file entries) (next_multiple spacing place k (samples.multiple before) divides above less) parts.1
+            subst (HasListedRecord file entries) (next_multiple spacing place k (samples.multiple before) divides above less) parts.1
       ] refl;
   multiple = λ more.
       let same : next ≡ place + spacing = omega arith in
@@ -123,7 +123,7 @@ samples_more entries spacing last place next probes now before fits is noted sam
 
 pub samples_all : (entries : List Listed) (last place : ℕ) (probes now : List Probe) → last + 1 ≡ length entries → last ≤ place
     → IsNoted entries last probes now → Samples entries (last / 15 + 1) last place probes → AreProbesOf entries now
-samples_all entries last place probes now many past noted samples = λ file each k sampled entry is.
+samples_all entries last place probes now many past noted samples = λ file each k entry is sampled.
     let parts = noted file each in
     let within = slice_get_within entries k entry is in
     let spacing : spacing_of (length entries) ≡ last / 15 + 1 =
@@ -137,7 +137,7 @@ samples_all entries last place probes now many past noted samples = λ file each
           ]
       | false ↦ λ no.
           let here : last ≡ k = omega (arith, leb-false (k + 1) last no) in
-          subst (HasRecordAt file entries) here parts.1 entry is
+          subst (HasListedRecord file entries) here parts.1 entry is
     ] refl
 
 -- ---- entries that are records
@@ -149,4 +149,4 @@ record_at file (suc k) (x ∷ xs) entry are is = record_at file k xs entry (λ j
 
 -- the sample of entries that are all records
 pub sample_of : (file : List ℕ) (entries : List Listed) → AreRecords file entries → IsSample file entries
-sample_of file entries are = λ k at entry is. record_at file k entries entry are is
+sample_of file entries are = λ k entry is at. record_at file k entries entry are is

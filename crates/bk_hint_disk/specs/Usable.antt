@@ -29,8 +29,8 @@ abbrev pub IsRecordIn : List ℕ → Listed → Type 0
 IsRecordIn file entry = HasPrefix (drop (entry.at - 4) file) (head_of entry)
 
 -- the file has the record of the entry at this place, if there is one
-abbrev pub HasRecordAt : List ℕ → List Listed → ℕ → Type 0
-HasRecordAt file entries place = (entry : Listed) → slice_get entries place ≡ Some entry → IsRecordIn file entry
+abbrev pub HasListedRecord : List ℕ → List Listed → ℕ → Type 0
+HasListedRecord file entries place = (entry : Listed) → slice_get entries place ≡ Some entry → IsRecordIn file entry
 
 -- distance of those of so many entries that are compared with the log
 abbrev pub spacing_of : ℕ → ℕ
@@ -43,7 +43,7 @@ IsSampled count place = (place % spacing_of count ≡ 0) ⊎ (place + 1 ≡ coun
 
 -- the entries that are compared are records of the file
 abbrev pub IsSample : List ℕ → List Listed → Type 0
-IsSample file entries = (place : ℕ) → IsSampled (length entries) place → HasRecordAt file entries place
+IsSample file entries = (place : ℕ) (entry : Listed) → slice_get entries place ≡ Some entry → IsSampled (length entries) place → IsRecordIn file entry
 
 -- the file has the record of the probe at its position
 abbrev pub IsMet : List ℕ → Probe → Type 0
@@ -55,7 +55,7 @@ AreProbesOf entries probes = (file : List ℕ) → All (IsMet file) probes → I
 
 -- if a file has the records after, it has those before, and that of the entry at this place
 abbrev pub IsNoted : List Listed → ℕ → List Probe → List Probe → Type 0
-IsNoted entries place old new = (file : List ℕ) → All (IsMet file) new → All (IsMet file) old × HasRecordAt file entries place
+IsNoted entries place old new = (file : List ℕ) → All (IsMet file) new → All (IsMet file) old × HasListedRecord file entries place
 
 -- ---- header and ledgers map
 

@@ -19,7 +19,7 @@ use Rattle.bk_log.specs.declared.found.FoundRun.{FoundRun}
 use Rattle.bk_log.specs.declared.front.Front.TheVariants.{Record}
 use Rattle.bk_log.specs.Ahead.{Ahead}
 use Rattle.bk_log.specs.Fronts.{IsFront, HasWholeFirst, IsWholeRun}
-use Rattle.bk_log.specs.FoundRuns.{found_behind, founds_from, founds_of, IsEntryOf, AreEntriesOf}
+use Rattle.bk_log.specs.FoundRuns.{found_adjacent, founds_from, founds_of, IsEntryOf, AreEntriesOf}
 use Rattle.bk_log.specs.Places.{HasEntryAt}
 use Rattle.bk_log.specs.Ranges.{IsPassed, entries_in, part}
 use Rattle.bk_log.specs.Scanned.{window_scan, KeepsScan}
@@ -120,7 +120,7 @@ entries_passed s at given foreign (suc count) found place headed within passed f
     (subst (λ n. IsFront (part s.file (at + 0 * size) s.end) (Record size (Some (record { ledger = found.key.ledger; entry = n })))) first
     (fronts 0 (omega arith))) in
     let one = entry_passed s at given foreign found place headed (omega (arith, sum)) passed front in
-    let later = entries_passed s (at + size) (given + 1) foreign count (found_behind found) (omega arith) (omega arith) (omega (arith, sum)) one.1
+    let later = entries_passed s (at + size) (given + 1) foreign count (found_adjacent found) (omega arith) (omega arith) (omega (arith, sum)) one.1
     (λ k less.
     let step : at + suc k * size ≡ at + size + k * size = omega (arith, suc-mul k size) in
     let id : found.key.entry + suc k ≡ found.key.entry + 1 + k = omega arith in

@@ -9,8 +9,8 @@ use Rattle.bk_log.specs.Ranges.{entries_in}
 use Rattle.bk_log.specs.Scanning.{Scan, is_going, part_of}
 
 -- entry of the same ledger and size directly behind another, with the next entry id
-abbrev pub found_behind : Found → Found
-found_behind found = record {
+abbrev pub found_adjacent : Found → Found
+found_adjacent found = record {
   key = record { ledger = found.key.ledger; entry = found.key.entry + 1 };
   at = found.at + found.size;
   size = found.size;
@@ -19,7 +19,7 @@ found_behind found = record {
 -- so many entries, from the first on
 abbrev pub founds_from : Found → ℕ → List Found
 founds_from found zero = []
-founds_from found (suc count) = found ∷ founds_from (found_behind found) count
+founds_from found (suc count) = found ∷ founds_from (found_adjacent found) count
 
 -- the entries of a run, in order
 abbrev pub founds_of : FoundRun → List Found

@@ -8,7 +8,7 @@ use Rattle.bk_record.specs.Location.{Place}
 use Rattle.bk_record.specs.Keyed.{Places}
 use Rattle.bk_record.specs.Scan.{Ledgers}
 use Rattle.bk_log.specs.declared.found.Found.{Found}
-use Rattle.bk_log.specs.FoundRuns.{found_behind, founds_from}
+use Rattle.bk_log.specs.FoundRuns.{found_adjacent, founds_from}
 use Rattle.bk_index.specs.Runs.{with_run}
 use Rattle.bk_accounts.specs.Book.{Book, after_ready, after_count, after_count_dead}
 use Rattle.bk_accounts.proofs.ManyCalls.{counts_add, counts_dead_add}
@@ -66,9 +66,9 @@ module _ (log : ℕ) (dead : Ledgers) (ledger : ℕ) where
         entry_live index (after_count (after_ready book log ledger) log ledger bytes) f same
         ∙ ap (λ (b : Book). record { index = finite.insert index f.key (place_in log f); accounts = b; dead = dead })
         (counts_add book log ledger bytes f.size) in
-        ap (λ (t : Tally). with_entries log t (founds_from (found_behind f) n)) first
-        ∙ entries_live n (finite.insert index f.key (place_in log f)) book (bytes + f.size) (found_behind f) same
-        ∙ ap (counted (with_run (finite.insert index f.key (place_in log f)) (found_behind f).key (place_in log (found_behind f)) f.size n) book) count
+        ap (λ (t : Tally). with_entries log t (founds_from (found_adjacent f) n)) first
+        ∙ entries_live n (finite.insert index f.key (place_in log f)) book (bytes + f.size) (found_adjacent f) same
+        ∙ ap (counted (with_run (finite.insert index f.key (place_in log f)) (found_adjacent f).key (place_in log (found_adjacent f)) f.size n) book) count
 
   module _ (gone : set.contains dead ledger ≡ true) where
     entry_dead : (index : Places) (book : Book) (f : Found) → f.key.ledger ≡ ledger
@@ -94,8 +94,8 @@ module _ (log : ℕ) (dead : Ledgers) (ledger : ℕ) where
         ≡ record { index = index; accounts = after_count_dead book log (bytes + f.size); dead = dead } =
         entry_dead index (after_count_dead book log bytes) f same
         ∙ ap (λ (b : Book). record { index = index; accounts = b; dead = dead }) (counts_dead_add book log bytes f.size) in
-        ap (λ (t : Tally). with_entries log t (founds_from (found_behind f) n)) first
-        ∙ entries_dead n index book (bytes + f.size) (found_behind f) same
+        ap (λ (t : Tally). with_entries log t (founds_from (found_adjacent f) n)) first
+        ∙ entries_dead n index book (bytes + f.size) (found_adjacent f) same
         ∙ ap (λ (b : ℕ). record { index = index; accounts = after_count_dead book log b; dead = dead }) count
 
 -- a run of a live ledger
@@ -105,8 +105,8 @@ run_live log t f zero some alive = absurd (omega arith)
 run_live log t f (suc n) some alive =
     let count : f.size + n * f.size ≡ suc n * f.size = omega arith in
     sym
-    (ap (λ (u : Tally). with_entries log u (founds_from (found_behind f) n)) (entry_live log t.dead f.key.ledger alive t.index t.accounts f refl)
-    ∙ entries_live log t.dead f.key.ledger alive n (finite.insert t.index f.key (place_in log f)) t.accounts f.size (found_behind f) refl
+    (ap (λ (u : Tally). with_entries log u (founds_from (found_adjacent f) n)) (entry_live log t.dead f.key.ledger alive t.index t.accounts f refl)
+    ∙ entries_live log t.dead f.key.ledger alive n (finite.insert t.index f.key (place_in log f)) t.accounts f.size (found_adjacent f) refl
     ∙ ap (counted log t.dead f.key.ledger (with_run t.index f.key (place_in log f) f.size (suc n)) t.accounts) count)
 
 -- a run of a deleted ledger
@@ -116,6 +116,6 @@ run_dead log t f zero some gone = absurd (omega arith)
 run_dead log t f (suc n) some gone =
     let count : f.size + n * f.size ≡ suc n * f.size = omega arith in
     sym
-    (ap (λ (u : Tally). with_entries log u (founds_from (found_behind f) n)) (entry_dead log t.dead f.key.ledger gone t.index t.accounts f refl)
-    ∙ entries_dead log t.dead f.key.ledger gone n t.index t.accounts f.size (found_behind f) refl
+    (ap (λ (u : Tally). with_entries log u (founds_from (found_adjacent f) n)) (entry_dead log t.dead f.key.ledger gone t.index t.accounts f refl)
+    ∙ entries_dead log t.dead f.key.ledger gone n t.index t.accounts f.size (found_adjacent f) refl
     ∙ ap (λ (b : ℕ). dead_after log t b) count)

@@ -18,7 +18,7 @@ use Rattle.bk_log.specs.declared.fault.ScanFault.{ScanFault}
 use Rattle.bk_log.specs.declared.fault.ScanFault.TheVariants as scans
 use Rattle.bk_log.specs.Ranges.{entries_in, part}
 use Rattle.bk_log.specs.declared.found.FoundRun.{FoundRun}
-use Rattle.bk_log.specs.FoundRuns.{found_behind, founds_from, founds_of, bytes_of_run, IsEntryOf, AreEntriesOf, RunMoves}
+use Rattle.bk_log.specs.FoundRuns.{found_adjacent, founds_from, founds_of, bytes_of_run, IsEntryOf, AreEntriesOf, RunMoves}
 use Rattle.bk_log.specs.Scanning.{Scan, part_of, NextMoves, ScanNextTransition}
 use Rattle.bk_log.proofs.Ranges.{entries_in-file, whole_view}
 use Rattle.bk_accounts.specs.Book.{total_in, after_ready, after_count, after_count_dead}
@@ -94,13 +94,13 @@ total_entries log t (f ∷ founds) total is =
 
 length-founds_from : (f : Found) (n : ℕ) → length (founds_from f n) ≡ n
 length-founds_from f zero = refl
-length-founds_from f (suc n) = ap suc (length-founds_from (found_behind f) n)
+length-founds_from f (suc n) = ap suc (length-founds_from (found_adjacent f) n)
 
 bytes-founds_from : (f : Found) (n : ℕ) → bytes_found (founds_from f n) ≡ n * f.size
 bytes-founds_from f zero = omega arith
 bytes-founds_from f (suc n) =
     let more : f.size + n * f.size ≡ suc n * f.size = omega arith in
-    bytes_first f (founds_from (found_behind f) n) ∙ ap (λ m. f.size + m) (bytes-founds_from (found_behind f) n) ∙ more
+    bytes_first f (founds_from (found_adjacent f) n) ∙ ap (λ m. f.size + m) (bytes-founds_from (found_adjacent f) n) ∙ more
 
 -- entries of a part that go on where the founds end
 founds_more : (s : Scan) (records : List (ℕ × List ℕ)) (place : ℕ) (founds more : List Found) → entries_in s.from (part_of s) ≡ records
