@@ -3,7 +3,9 @@
 ghost use Rattle.std.specs.Prelude.{IsTrue};
 
 use crate::Form;
-use crate::ignored::{tell_ignored, tell_lack, tell_unread_manifest};
+use crate::ignored::{
+    tell_ignored, tell_lack, tell_not_compared, tell_unread_length, tell_unread_manifest,
+};
 use bk_disk::{DirDisk, DiskFault, LogDisk};
 use bk_manifest::{LogState, Record, State};
 use bk_manifest_disk::{
@@ -36,6 +38,8 @@ struct Look {
     limits: BTreeMap<u32, u64>,
     reports: Vec<Report>,
     lacks: Vec<Lack>,
+    /// The logs of which the system does not tell the length, and why.
+    unread: Vec<(u32, DiskFault)>,
 }
 
 impl Look {
@@ -45,6 +49,7 @@ impl Look {
             limits: BTreeMap::new(alloc),
             reports: Vec::new(alloc),
             lacks: Vec::new(alloc),
+            unread: Vec::new(alloc),
         }
     }
 
@@ -91,7 +96,7 @@ fn log_in(one: &Record) -> Option<u32> {
 }
 
 /// Compares the records of a manifest with the logs of a directory, or with one of them. A log of
-/// which the system does not tell the length is left out.
+/// which the system does not tell the length is not compared.
 fn compared(
     alloc: Global,
     disk: &mut DirDisk,
@@ -109,7 +114,7 @@ fn compared(
         match disk.length(alloc, log) {
             Ok(length) => look.add(log, state.log(log), Some(length))?,
             Err(DiskFault::NoLog) => look.add(log, state.log(log), None)?,
-            Err(_) => {}
+            Err(fault) => look.unread.push((log, fault))?,
         }
     }
     Ok(look)
@@ -168,17 +173,31 @@ pub(crate) fn with_ends<E: Write>(
 }
 
 /// Returns whether each log of the directory at a path has the durable bytes that `logs.manifest` has
-/// of it. Notes missing ones on the error stream, and bytes that are ignored. True if no directory can
-/// be read there, or the manifest.
+/// of it. Notes missing ones on the error stream, and bytes that are ignored.
+///
+/// False also if that is not known. Notes why: the directory cannot be read, the system does not tell
+/// the length of a log, or out of memory. Of a manifest that cannot be read it notes nothing.
 pub fn are_ends_whole<E: Write>(rt: &HostRuntime, form: Form, path: &str, errors: &mut E) -> bool {
-    let Ok(mut disk) = DirDisk::open_to_read(rt, path) else {
-        return true;
+    let alloc = rt.alloc();
+    let mut disk = match DirDisk::open_to_read(rt, path) {
+        Ok(disk) => disk,
+        Err(fault) => {
+            tell_not_compared(alloc, form, &fault, errors);
+            return false;
+        }
     };
     match look_up(rt, path, &mut disk, None) {
         Ok(look) => {
-            look.tell(rt.alloc(), form, errors);
-            look.lacks.is_empty()
+            look.tell(alloc, form, errors);
+            for (log, fault) in &look.unread {
+                tell_unread_length(alloc, form, *log, *fault, errors);
+            }
+            look.lacks.is_empty() && look.unread.is_empty()
         }
-        Err(_) => true,
+        Err(ReadFault::Memory) => {
+            tell_not_compared(alloc, form, &ReadFault::Memory, errors);
+            false
+        }
+        Err(_) => false,
     }
 }

@@ -3,6 +3,7 @@
 
 use crate::Form;
 use crate::form::write_row;
+use bk_disk::DiskFault;
 use bk_hint_disk::Unused;
 use bk_manifest_disk::{Cause, Lack, ReadFault, Report};
 use serde::Serialize;
@@ -92,7 +93,10 @@ pub(crate) fn tell_lack<E: Write>(alloc: Global, form: Form, lack: Lack, errors:
     let _ = write_row(alloc, form, &row, errors);
 }
 
-/// The row of a manifest that cannot be read.
+/// Why the durable bytes of logs are not known.
+const NOT_COMPARED: &str = "not compared with the manifest";
+
+/// The row of what cannot be read.
 #[derive(Drop, Serialize)]
 struct UnreadRow {
     note: &'static str,
@@ -121,7 +125,43 @@ pub(crate) fn tell_unread_manifest<E: Write>(
     }
 }
 
-/// The row of a hint that is not used.
+/// Notes on the error stream that logs are not compared with their manifest. A failed write is
+/// ignored.
+pub(crate) fn tell_not_compared<F: Display, E: Write>(
+    alloc: Global,
+    form: Form,
+    fault: &F,
+    errors: &mut E,
+) {
+    if let Ok(reason) = format!(in alloc; "{fault}") {
+        let row = UnreadRow {
+            note: NOT_COMPARED,
+            reason,
+        };
+        let _ = write_row(alloc, form, &row, errors);
+    }
+}
+
+/// Notes on the error stream that a log is not compared with its manifest, since its length cannot be
+/// read. A failed write is ignored.
+pub(crate) fn tell_unread_length<E: Write>(
+    alloc: Global,
+    form: Form,
+    log: u32,
+    fault: DiskFault,
+    errors: &mut E,
+) {
+    if let Ok(why) = format!(in alloc; "{fault}") {
+        let row = UnusedRow {
+            note: NOT_COMPARED,
+            log,
+            why,
+        };
+        let _ = write_row(alloc, form, &row, errors);
+    }
+}
+
+/// The row of what is not used of a log: its hint, or its records in the manifest.
 #[derive(Drop, Serialize)]
 struct UnusedRow {
     note: &'static str,
