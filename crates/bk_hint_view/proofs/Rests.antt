@@ -1,8 +1,7 @@
 -- The records of a run from one of them on are in a file of which the table is true.
-use Rattle.std.proofs.Common.{◌≡◌, ◌∙◌, ℕ, zero, suc, ◌+◌, ◌-◌, ◌*◌, ◌<◌, ◌≤◌, List, [], ◌∷◌, ◌++◌, length, get_or, drop, slice_get, Option, Some, true, refl, sym, ap, subst, arith}
+use Rattle.std.proofs.Common.{◌≡◌, ◌∙◌, ℕ, zero, suc, ◌+◌, ◌-◌, ◌*◌, ◌≤◌, List, [], ◌∷◌, ◌++◌, length, get_or, drop, slice_get, Option, Some, true, refl, sym, ap, subst, arith}
 use Rattle.std.specs.Int.{w32, w64, to_be_bytes}
 use Rattle.std.specs.List.{All}
-use Rattle.std.proofs.lemmas.List.Elements.{All-map}
 use Rattle.bk_disk.specs.Blocks.{HasPrefix}
 use Rattle.bk_disk.specs.Runs.{IsRunAt, head_in_run}
 use Rattle.bk_disk.specs.declared.record_run.RecordRun.{RecordRun}
@@ -11,7 +10,7 @@ use Rattle.bk_hint.specs.declared.runs.ListedRun.{ListedRun}
 use Rattle.bk_hint.specs.Checking.{repeated_by}
 use Rattle.bk_hint.specs.Entries.{next_of, repeats}
 use Rattle.bk_hint.specs.Runs.{entries_of_run, entries_of_runs}
-use Rattle.bk_hint_view.specs.Rows.{head_of, AreRecords, IsTrueTable, IsRestOf, IsRestIn}
+use Rattle.bk_hint_view.specs.Rows.{head_of, IsTrueTable, IsRestOf, IsRestIn}
 use Rattle.bk_hint_view.specs.Showing.{has_true_table}
 use Rattle.bk_hint_view.proofs.Truths.{test_true}
 

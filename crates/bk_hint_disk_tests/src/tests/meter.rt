@@ -1,18 +1,19 @@
-//! A disk that counts what is read of its logs.
+//! A disk that counts what is read of its logs, and how often its views are asked for a run.
 
 ghost use Rattle.std.specs.Prelude.{false};
 ghost use Rattle.std.specs.FinMap as map;
 
-use bk_disk::{DiskFault, LogDisk, LogView};
+use bk_disk::{DiskFault, LogDisk, LogView, RecordRun};
 use std::alloc::{AllocError, Global};
 use std::sync::Arc;
 use std::sync::atomic::{AtomicU64, Ordering};
 
-/// The number of bytes that were read, and of the reads.
+/// The number of bytes that were read, of the reads, and of the looks for a run of records.
 #[derive(Drop)]
 pub(super) struct Meter {
     bytes: AtomicU64,
     reads: AtomicU64,
+    looks: AtomicU64,
 }
 
 impl Meter {
@@ -20,6 +21,7 @@ impl Meter {
         let meter = Meter {
             bytes: AtomicU64::new(0),
             reads: AtomicU64::new(0),
+            looks: AtomicU64::new(0),
         };
         Ok(Arc::new(alloc, meter)?)
     }
@@ -38,9 +40,15 @@ impl Meter {
     pub(super) fn reads(&self) -> u64 {
         self.reads.load(Ordering::SeqCst)
     }
+
+    /// Returns the number of looks for a run.
+    pub(super) fn looks(&self) -> u64 {
+        self.looks.load(Ordering::SeqCst)
+    }
 }
 
-/// Another disk, of which each read is counted. It and its views claim no honesty, and lend nothing.
+/// Another disk, of which each read is counted. It and its views claim no honesty. Its views lend no
+/// bytes, and the runs that those of the other disk lend.
 #[derive(Drop)]
 pub(super) struct MeterDisk<D: LogDisk> {
     inner: D,
@@ -77,6 +85,11 @@ impl<V: LogView> LogView for MeterView<V> {
     fn read_into(&self, at: u64, out: &mut [u8]) -> Result<(), DiskFault> {
         self.meter.add(out.len());
         self.inner.read_into(at, out)
+    }
+
+    fn lend_run(&self, at: u64) -> Option<RecordRun> {
+        let _looks = self.meter.looks.fetch_add(1, Ordering::SeqCst);
+        self.inner.lend_run(at)
     }
 }
 

@@ -1,4 +1,4 @@
-use Rattle.std.proofs.Common.{◌∙◌, List, sym, subst}
+use Rattle.std.proofs.Common.{◌∙◌, List, subst}
 use Rattle.std.specs.List.{All}
 use Rattle.bk_hint_disk.specs.declared.sample.Probe.{Probe}
 use Rattle.bk_hint_disk.specs.Usable.{IsMet}
