@@ -95,8 +95,8 @@ impl Contents {
         Entries::over(&self.heads, &self.steps)
     }
 
-    /// Returns an iterator over the runs of the entries, in file order. The entries of its runs, one
-    /// after another, are the entries. Takes no time for each entry.
+    /// Returns an iterator over the runs of the entries, in file order. The entries of its runs,
+    /// one after another, are the entries. A call of its `next` takes no time for each entry.
     pub fn runs(&self) -> ListedRuns<'_>
         ensures list { entries_of_runs result ≡ self.now }
         ensures in_order { AreFrom (past origin) self.now }
@@ -104,8 +104,8 @@ impl Contents {
         ListedRuns::over(&self.heads, &self.steps)
     }
 
-    /// Returns the entry at this place of the file order, `None` if there are not so many. Place 0 is
-    /// that of the first entry. Takes steps in the number of runs.
+    /// Returns the entry at this place of the file order, `None` if there are not so many. Place 0
+    /// is that of the first entry. Takes steps in the number of runs.
     pub fn nth(&self, place: u64) -> Option<Listed>
         ensures { result ≡ slice_get self.now place }
     {
