@@ -1,4 +1,4 @@
-//! Scans of a view that knows the heads of records which stand one behind another.
+//! Scans of a view that knows the heads of records that stand one behind another.
 
 use super::{HEAD, key, log_of, view_of};
 use bk_disk::{DiskFault, LogView, MemView, RecordRun};
@@ -10,7 +10,7 @@ use std::process::Abort;
 /// A record: ledger id, entry id, number of bytes of data.
 type Piece = (u64, u64, u32);
 
-/// What the view says of a position: ledger id, entry id, number of records, size in bytes.
+/// What a view says: position, ledger id, entry id, number of records, size of each in bytes.
 type Said = (u64, u64, u64, u32, u32);
 
 /// The greatest entry id.
@@ -69,7 +69,7 @@ static FALSE: [Said; 9] = [
     (1099, 2, 0, u32::MAX, 25),
 ];
 
-/// A view that says what it is told to say, and reads only if it may.
+/// A view that knows what it is told, true or false, and fails every read unless `reads`.
 #[derive(Drop)]
 struct Knowing<'a> {
     whole: MemView,
