@@ -26,7 +26,7 @@ impl Model for Table {
 }
 
 impl Table {
-    /// Returns the table of the entries of a log. Allocates some 32 bytes for each run of entries.
+    /// Returns the table of the entries of a log. Allocates some 40 bytes for each run of entries.
     ///
     /// # Errors
     ///
