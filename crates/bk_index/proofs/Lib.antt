@@ -19,3 +19,5 @@ pub mod PackedSearch
 pub mod PackedPlaces
 pub mod Halves
 pub mod Runs
+pub mod RunPairs
+pub mod RunPages

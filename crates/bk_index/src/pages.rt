@@ -17,6 +17,7 @@ use std::marker::Model;
 
 mod in_order;
 mod ledger;
+mod runs;
 
 /// The pages of an index. Each has from 1 to 256 entries.
 #[derive(Debug, Drop)]

@@ -1,6 +1,6 @@
 //! Runs of keys: consecutive entry ids of one ledger, with places at an even distance in one log.
 
-ghost use Rattle.std.specs.Prelude.{◌≡◌, ℕ, ◌+◌, ◌*◌, ◌<◌, ◌≤◌, ◌^◌, OnOk, OnErr};
+ghost use Rattle.std.specs.Prelude.{◌≡◌, ℕ, ◌+◌, ◌*◌, ◌<◌, ◌≤◌, ◌^◌, IfOk, OnOk, OnErr};
 ghost use Rattle.bk_index.specs.Runs.{with_run};
 
 use super::{Index, NO_PAGE};
@@ -36,11 +36,40 @@ impl Index {
         let (ledger, entry) = (first.ledger(), first.entry());
         let (log, at) = (place.log(), place.at());
         let mut page = NO_PAGE;
-        for done in 0..count {
+        let mut done = 0;
+        while done < count {
             let key = Key::new(ledger, entry + u64::from(done)).unwrap();
             let location = Location::pack(log, at + done * size).unwrap();
-            self.insert_near(key, location, &mut page)?;
+            let number = self.insert_part(key, location, size, count - done, &mut page)?;
+            done += number;
         }
         Ok(())
+    }
+
+    // Sets the locations of the first keys of a run, at least one, and returns their number: as
+    // many as fit their page if they come after all others there. Tries the page of this number
+    // first, and sets it to that of the keys.
+    fn insert_part(
+        &mut self,
+        key: Key,
+        place: Location,
+        size: u32,
+        count: u32,
+        page: &mut usize,
+    ) -> Result<u32, AllocError>
+        requires some { 0 < count }
+        requires places { place.at + count * size < 2 ^ 32 + size }
+        ensures ok { IfOk result (λ n. self.new ≡ with_run self.old key place size n) }
+        ensures some { IfOk result (λ n. 0 < n) }
+        ensures bound { IfOk result (λ n. n ≤ count) }
+        ensures err { OnErr result (self.new ≡ self.old) }
+    {
+        let pushed = self.pages.push_near(&key, place, size, count, page)?;
+        self.len += pushed as usize;
+        if pushed > 0 {
+            return Ok(pushed);
+        }
+        self.insert_near(key, place, page)?;
+        Ok(1)
     }
 }

@@ -17,6 +17,7 @@ use std::marker::Model;
 
 mod convert;
 mod in_order;
+mod runs;
 
 /// Pairs of a key and a location, sorted by key, all of one ledger. Each is a cell: the offset of
 /// its entry id from `base`, and its location.
