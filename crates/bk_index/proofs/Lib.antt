@@ -19,3 +19,4 @@ pub mod PackedSearch
 pub mod PackedPlaces
 pub mod Halves
 pub mod Runs
+pub mod FilledRuns

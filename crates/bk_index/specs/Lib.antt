@@ -4,3 +4,4 @@ pub mod Pages
 pub mod Packed
 pub mod Forms
 pub mod Runs
+pub mod Filling
