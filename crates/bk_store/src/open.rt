@@ -59,12 +59,13 @@ impl<D: LogDisk> Fields<D> {
         let mut tally = Tally::new(alloc, dead);
         let mut logs = LogTable::new(alloc);
         let next = find_all(&mut disk, alloc, &ids, &mut tally, &mut logs, &mut keeper)?;
-        tally.name_all();
         let Tally {
-            index,
-            accounts,
+            index: filling,
+            mut accounts,
             dead,
         } = tally;
+        let index = filling.finish()?;
+        name_each(&index, &mut accounts);
         Ok(Fields {
             disk,
             alloc,

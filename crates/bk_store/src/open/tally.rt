@@ -4,20 +4,20 @@ ghost use Rattle.std.specs.Prelude.{◌≡◌, ◌+◌, ◌<◌, ◌≤◌, ◌^
 ghost use Rattle.std.specs.FinMap as map;
 ghost use Rattle.bk_accounts.specs.Book.{HasAccount, total_in};
 ghost use Rattle.bk_log.specs.FoundRuns.{bytes_of_run, founds_of};
-ghost use Rattle.bk_store.specs.Found.{with_entries, with_entry, with_names, named_by, AreUnnamed};
+ghost use Rattle.bk_store.specs.Found.{with_entries, with_entry, named_by, AreUnnamed};
 
 use crate::OpenFault;
-use crate::indexing::{index_found, index_run};
+use crate::indexing::{fill_found, index_run};
 use crate::ledger_set::LedgerSet;
 use bk_accounts::Accounts;
-use bk_index::Index;
+use bk_index::{Filling, Index};
 use bk_log::{Found, FoundRun};
 use std::alloc::Global;
 
 /// The index of the entries of live ledgers, the accounts of all entries, and the deleted ledgers.
 #[derive(Drop)]
 pub(super) struct Tally {
-    pub index: Index,
+    pub index: Filling,
     pub accounts: Accounts,
     pub dead: LedgerSet,
 }
@@ -28,7 +28,7 @@ impl Tally {
         ensures { result ≡ record { index = map.empty; accounts = map.empty; dead = dead } }
     {
         Tally {
-            index: Index::new(alloc),
+            index: Filling::new(alloc),
             accounts: Accounts::new(alloc),
             dead,
         }
@@ -45,7 +45,7 @@ impl Tally {
         ensures ok { OnOk result (self.new ≡ with_entry log self.old found.now) }
         ensures only { IsOkUnless result OpenFault.Memory }
     {
-        if !index_found(&mut self.index, &self.dead, log, found)? {
+        if !fill_found(&mut self.index, &self.dead, log, found)? {
             self.accounts.count_dead(log, found.size);
             return Ok(());
         }
@@ -84,17 +84,9 @@ impl Tally {
         self.accounts.count(log, ledger, bytes);
         Ok(())
     }
-
-    /// Counts the index entries of each log. Does not allocate.
-    pub fn name_all(&mut self)
-        requires { AreUnnamed self.old.accounts }
-        ensures { self.new ≡ with_names self.old }
-    {
-        name_each(&self.index, &mut self.accounts);
-    }
 }
 
-/// Counts each entry of an index in the account of its log.
+/// Counts each entry of an index in the account of its log. Does not allocate.
 pub(crate) fn name_each(index: &Index, accounts: &mut Accounts)
     requires { AreUnnamed accounts.old }
     ensures { accounts.new ≡ named_by (map.entries index.now) accounts.old }

@@ -2,7 +2,10 @@ use Rattle.std.proofs.Common.{◌≡◌, IsTrue, IfErr, Err, refl, sym, ap, subs
 use Rattle.std.proofs.lemmas.Result.{err_from_is_err_and}
 use Rattle.bk_cache.specs.Caches.{new_caches}
 use Rattle.bk_store.specs.Opening.{OpenFails}
-use Rattle.bk_store.specs.Found.{AllDurable}
+use Rattle.std.specs.FinMap as finite
+use Rattle.bk_record.specs.Keyed.{Places}
+use Rattle.bk_store.specs.Found.{AllDurable, with_names, named_by}
+use Rattle.bk_store.specs.declared.open.tally.Tally.{Tally}
 use Rattle.bk_store.proofs.RemovedFiles.{none_since}
 use Rattle.bk_store.specs.declared.answer.OpenFault.TheVariants as open_faults
 use Rattle.bk_store.proofs.OpenedInvariant.{taken_as, taken_unnamed, opened_keeps, opened_is, open_fails, listed_len}
@@ -36,14 +39,22 @@ returns-in_err-next-clause-fails g c =
     open_fails (g.D.LogDisk.files c.args.disk) _ c.args.settings _ turn.1 (c.is_allowed.ensures.0 allowed)
     (omega (arith, many, c.if-len-slots.false, c.len.ensures, c.in_ok-ids.ids.ok.0)) (c.in_err-next.ensures.err (c.in_ok-ids.ensures.honest ∙ honest)))
 
-pub name_all-requires : goal.name_all-requires
-name_all-requires g c =
+pub name_each-requires : goal.name_each-requires
+name_each-requires g c =
     taken_unnamed c.args.settings _ _ c.in_ok-dead.dead _ _ _ _
     (taken_as _ _ _ _ c.in_ok-dead.dead _ _ _ _ _ _ c.in_ok-next.ensures.ok c.new-tally.ensures c.new-logs.ensures refl (λ _. refl))
 
 pub returns-clause-store_invariant : goal.returns-clause-store_invariant
 returns-clause-store_invariant g c =
     let allowed : IsTrue c.is_allowed.result = let told = c.if-not-is_allowed.false in cc in
+    let t = c.find_all.new.tally in
+    let now : Tally = record { index = c.in_ok-index.index; accounts = c.name_each.new.accounts; dead = t.dead } in
+    let now_is : now ≡ with_names t =
+    λ i. record {
+      index = c.in_ok-index.ensures i;
+      accounts = (c.name_each.ensures ∙ ap (λ (m : Places). named_by (finite.entries m) t.accounts) c.in_ok-index.ensures) i;
+      dead = t.dead;
+    } in
     let was = taken_as _ (g.D.LogDisk.honest c.args.disk) _ (g.D.LogDisk.files c.args.disk) c.in_ok-dead.dead _ _ _ _ _ _ c.in_ok-next.ensures.ok
     c.new-tally.ensures c.new-logs.ensures (sym c.in_ok-ids.ensures.honest) (λ is. sym (c.in_ok-ids.ensures.transition (sym c.in_ok-ids.ensures.honest ∙ is)).1) in
     opened_keeps c.args.settings (g.D.LogDisk.honest c.args.disk) (g.D.LogDisk.honest c.find_all.new.disk) (g.D.LogDisk.files c.args.disk)
@@ -51,8 +62,8 @@ returns-clause-store_invariant g c =
     c.find_all.new.logs was c.find_all.new.keeper (c.in_ok-next.ensures.honest ∙ c.in_ok-ids.ensures.honest)
     (λ is. c.in_ok-next.ensures.files (c.in_ok-ids.ensures.honest ∙ is) ∙ (c.in_ok-ids.ensures.transition is).1)
     (λ is. c.deref.ensures.value ∙ (c.in_ok-ids.ensures.transition is).0)
-    c.in_ok-caches.caches c.new-3.result.places c.name_all.new.self c.opened.result.known c.new-4.result.items
-    (c.in_ok-caches.ensures.value ∙ ap (λ l. new_caches l c.args.settings.recent) c.from-2.ensures) c.new-3.ensures c.name_all.ensures c.opened.ensures c.new-4.ensures.items
+    c.in_ok-caches.caches c.new-3.result.places now c.opened.result.known c.new-4.result.items
+    (c.in_ok-caches.ensures.value ∙ ap (λ l. new_caches l c.args.settings.recent) c.from-2.ensures) c.new-3.ensures now_is c.opened.ensures c.new-4.ensures.items
     (c.is_allowed.ensures.0 allowed)
     (seated_by c.args.settings c.in_ok-keeper.keeper c.find_all.new.keeper c.find_all.new.logs c.in_ok-keeper.ensures.free
     (c.in_ok-keeper.ensures.most ∙ c.from.ensures) c.in_ok-next.ensures.keeper c.in_ok-next.ensures.seated)
@@ -65,6 +76,14 @@ returns-clause-store_invariant g c =
 
 pub returns-clause-opened : goal.returns-clause-opened
 returns-clause-opened g c =
+    let t = c.find_all.new.tally in
+    let now : Tally = record { index = c.in_ok-index.index; accounts = c.name_each.new.accounts; dead = t.dead } in
+    let now_is : now ≡ with_names t =
+    λ i. record {
+      index = c.in_ok-index.ensures i;
+      accounts = (c.name_each.ensures ∙ ap (λ (m : Places). named_by (finite.entries m) t.accounts) c.in_ok-index.ensures) i;
+      dead = t.dead;
+    } in
     let was = taken_as _ (g.D.LogDisk.honest c.args.disk) _ (g.D.LogDisk.files c.args.disk) c.in_ok-dead.dead _ _ _ _ _ _ c.in_ok-next.ensures.ok
     c.new-tally.ensures c.new-logs.ensures (sym c.in_ok-ids.ensures.honest) (λ is. sym (c.in_ok-ids.ensures.transition (sym c.in_ok-ids.ensures.honest ∙ is)).1) in
     opened_is c.args.settings (g.D.LogDisk.honest c.args.disk) (g.D.LogDisk.honest c.find_all.new.disk) (g.D.LogDisk.files c.args.disk)
@@ -72,6 +91,6 @@ returns-clause-opened g c =
     c.find_all.new.logs was c.find_all.new.keeper (c.in_ok-next.ensures.honest ∙ c.in_ok-ids.ensures.honest)
     (λ is. c.in_ok-next.ensures.files (c.in_ok-ids.ensures.honest ∙ is) ∙ (c.in_ok-ids.ensures.transition is).1)
     (λ is. c.deref.ensures.value ∙ (c.in_ok-ids.ensures.transition is).0)
-    c.in_ok-caches.caches c.new-3.result.places c.name_all.new.self c.opened.result.known c.new-4.result.items
-    (c.in_ok-caches.ensures.value ∙ ap (λ l. new_caches l c.args.settings.recent) c.from-2.ensures) c.new-3.ensures c.name_all.ensures c.opened.ensures c.new-4.ensures.items
+    c.in_ok-caches.caches c.new-3.result.places now c.opened.result.known c.new-4.result.items
+    (c.in_ok-caches.ensures.value ∙ ap (λ l. new_caches l c.args.settings.recent) c.from-2.ensures) c.new-3.ensures now_is c.opened.ensures c.new-4.ensures.items
     c.args.dead.now c.in_ok-dead.ensures
