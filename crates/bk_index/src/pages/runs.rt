@@ -71,8 +71,9 @@ impl Pages {
         ensures homes { (i : ℕ) → i < result → IsHome (key_of_run key.now i) self.now at }
         ensures bound { result ≤ count }
     {
+        let pages = self.fences.len();
         let next = at + 1;
-        if next >= self.fences.len() {
+        if next >= pages {
             return count;
         }
         let fence = self.fences[next];
