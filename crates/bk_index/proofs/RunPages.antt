@@ -6,7 +6,7 @@ use Rattle.std.proofs.lemmas.Bool.{cases_lt}
 use Rattle.std.proofs.lemmas.List.{get_or-map}
 use Rattle.std.specs.declared.cmp.Ordering.TheVariants.{Less}
 use Rattle.std.specs.Bool.{IsTrue}
-use Rattle.std.specs.FinMap.{FinMap, put, is_sorted, from_sorted}
+use Rattle.std.specs.FinMap.{put, is_sorted, from_sorted}
 use Rattle.bk_record.specs.Key.{EntryKey, key_cmp}
 use Rattle.bk_record.specs.Location.{Place}
 use Rattle.bk_record.specs.Keyed.{Places}

@@ -1,6 +1,6 @@
 use Rattle.std.proofs.Common.{◌≡◌, ◌∙◌, arith, rules}
 use Rattle.bk_index.specs.Runs.{key_of_run, place_of_run, with_run}
-use Rattle.bk_index.proofs.Runs.{with_more, at_of_run, at_of_rest}
+use Rattle.bk_index.proofs.Runs.{with_more, at_of_rest}
 use Rattle.bk_index.proofs.index.Index.insert_run.Goals as goal
 
 pub insert_part-requires-clause-places : goal.insert_part-requires-clause-places

@@ -1,4 +1,4 @@
-use Rattle.std.proofs.Common.{◌≡◌, length, sym, ◌∙◌, arith}
+use Rattle.std.proofs.Common.{◌≡◌, length, ◌∙◌, arith}
 use Rattle.bk_index.proofs.Runs.{at_of_fewer}
 use Rattle.bk_index.proofs.RunPairs.{cells_before, cells_and_run, length_and_run, is_sorted_and_run}
 use Rattle.bk_index.proofs.page.packed.Packed.push_run.Goals as goal

@@ -1,7 +1,6 @@
 use Rattle.std.proofs.Common.{◌≡◌, ◌+◌, [], ◌∷◌, ◌++◌, sym, ap, ◌∙◌, arith, rules, append_assoc}
 use Rattle.std.proofs.lemmas.List.{append-nil}
 use Rattle.bk_index.specs.Runs.{place_of_run, cells_of_run}
-use Rattle.bk_index.proofs.Runs.{at_of_run}
 use Rattle.bk_index.proofs.RunPairs.{cells_one_more}
 use Rattle.bk_index.proofs.page.packed.runs.append.Goals as goal
 
