@@ -12,7 +12,7 @@ use Rattle.bk_hint.specs.declared.listed.Listed.{Listed}
 use Rattle.bk_hint.specs.declared.runs.ListedRun.{ListedRun}
 use Rattle.bk_hint.specs.Entries.{past, origin, next_of, repeats, AreFrom, bytes_of}
 use Rattle.bk_hint.specs.Runs.{entries_of_run, entries_of_runs}
-use Rattle.bk_hint.specs.Sums.{bytes_in, sum_of, IsMapOf}
+use Rattle.bk_hint.specs.Sums.{bytes_in, summed_at, sum_of, IsSumAdded, IsMapOf}
 use Rattle.bk_hint.proofs.Counts.{bytes_below}
 use Rattle.bk_hint.proofs.Runwise.{LegalRuns, legal_first}
 
@@ -39,20 +39,16 @@ part_le false size = omega arith
 
 -- ---- the sums so far
 
--- bytes that the map has of a ledger
-abbrev pub size_at : BTreeMap ℕ ℕ → ℕ → ℕ
-size_at sums ledger = unwrap_or (tree.get nat_cmp sums ledger) 0
-
 pub record Adds (sums : BTreeMap ℕ ℕ) (rest all : List Listed) : Type 0 where
-  pub gets : (ledger : ℕ) → tree.get nat_cmp sums ledger ≡ sum_of (size_at sums ledger)
-  pub adds : (ledger : ℕ) → size_at sums ledger + bytes_in rest ledger ≡ bytes_in all ledger
+  pub gets : (ledger : ℕ) → tree.get nat_cmp sums ledger ≡ sum_of (summed_at sums ledger)
+  pub adds : (ledger : ℕ) → summed_at sums ledger + bytes_in rest ledger ≡ bytes_in all ledger
 
 pub adds_start : (sums : BTreeMap ℕ ℕ) (all : List Listed) → sums.entries ≡ [] → Adds sums all all
 adds_start sums all none =
     let empty : (ledger : ℕ) → tree.get nat_cmp sums ledger ≡ None = λ ledger. ap (lookup (is_at (nat_cmp ledger))) none in
     record {
       gets = λ ledger. empty ledger ∙ ap (λ (o : Option ℕ). sum_of (unwrap_or o 0)) (sym (empty ledger));
-      adds = λ ledger. let zero_at : size_at sums ledger ≡ 0 = ap (λ (o : Option ℕ). unwrap_or o 0) (empty ledger) in omega arith;
+      adds = λ ledger. let zero_at : summed_at sums ledger ≡ 0 = ap (λ (o : Option ℕ). unwrap_or o 0) (empty ledger) in omega arith;
     }
 
 some_sum : (bytes : ℕ) → 0 < bytes → sum_of bytes ≡ Some bytes
@@ -98,18 +94,18 @@ run_sums runs others run is left =
 
 -- one ledger after one run more
 record AddsAt (now : BTreeMap ℕ ℕ) (next all : List Listed) (ledger : ℕ) : Type 0 where
-  gets : tree.get nat_cmp now ledger ≡ sum_of (size_at now ledger)
-  adds : size_at now ledger + bytes_in next ledger ≡ bytes_in all ledger
+  gets : tree.get nat_cmp now ledger ≡ sum_of (summed_at now ledger)
+  adds : summed_at now ledger + bytes_in next ledger ≡ bytes_in all ledger
 
 adds_at : (sums now : BTreeMap ℕ ℕ) (rest next all : List Listed) (owner bytes total ledger : ℕ) (b : Bool) → is_at (nat_cmp owner) ledger ≡ b
-    → Adds sums rest all → IsRunOf owner bytes rest next → total ≡ size_at sums owner + bytes
+    → Adds sums rest all → IsRunOf owner bytes rest next → total ≡ summed_at sums owner + bytes
     → tree.get nat_cmp now ledger ≡ cond b (Some total) (tree.get nat_cmp sums ledger) → AddsAt now next all ledger
 adds_at sums now rest next all owner bytes total ledger true at so_far run total_is got =
     let same : owner ≡ ledger = at_true owner ledger at in
     let here : eqb owner ledger ≡ true = at_is owner ledger true at in
-    let size : size_at now ledger ≡ total = ap (λ (o : Option ℕ). unwrap_or o 0) got in
+    let size : summed_at now ledger ≡ total = ap (λ (o : Option ℕ). unwrap_or o 0) got in
     let part : (cond (eqb owner ledger) bytes 0) ≡ bytes = ap (λ (t : Bool). cond t bytes 0) here in
-    let before : size_at sums owner ≡ size_at sums ledger = ap (size_at sums) same in
+    let before : summed_at sums owner ≡ summed_at sums ledger = ap (summed_at sums) same in
     let adds = so_far.adds ledger in
     let parts = run.parts ledger in
     let some = run.some in
@@ -120,7 +116,7 @@ adds_at sums now rest next all owner bytes total ledger true at so_far run total
     }
 adds_at sums now rest next all owner bytes total ledger false at so_far run total_is got =
     let here : eqb owner ledger ≡ false = at_is owner ledger false at in
-    let size : size_at now ledger ≡ size_at sums ledger = ap (λ (o : Option ℕ). unwrap_or o 0) got in
+    let size : summed_at now ledger ≡ summed_at sums ledger = ap (λ (o : Option ℕ). unwrap_or o 0) got in
     let part : (cond (eqb owner ledger) bytes 0) ≡ 0 = ap (λ (t : Bool). cond t bytes 0) here in
     let adds = so_far.adds ledger in
     let parts = run.parts ledger in
@@ -129,12 +125,12 @@ adds_at sums now rest next all owner bytes total ledger false at so_far run tota
       adds = omega arith;
     }
 
-pub adds_more : (sums now : BTreeMap ℕ ℕ) (rest next all : List Listed) (owner bytes total : ℕ) → IsRunOf owner bytes rest next → Adds sums rest all
-    → total ≡ size_at sums owner + bytes
-    → ((ledger : ℕ) → tree.get nat_cmp now ledger ≡ cond (is_at (nat_cmp owner) ledger) (Some total) (tree.get nat_cmp sums ledger)) → Adds now next all
-adds_more sums now rest next all owner bytes total run so_far total_is got =
+pub adds_more : (sums now : BTreeMap ℕ ℕ) (rest next all : List Listed) (owner bytes : ℕ) → IsRunOf owner bytes rest next → Adds sums rest all
+    → IsSumAdded sums now owner bytes → Adds now next all
+adds_more sums now rest next all owner bytes run so_far added =
     let each : (ledger : ℕ) → AddsAt now next all ledger =
-    λ ledger. adds_at sums now rest next all owner bytes total ledger (is_at (nat_cmp owner) ledger) refl so_far run total_is (got ledger) in
+    λ ledger.
+    adds_at sums now rest next all owner bytes (summed_at sums owner + bytes) ledger (is_at (nat_cmp owner) ledger) refl so_far run refl (added ledger) in
     record { gets = λ ledger. (each ledger).gets; adds = λ ledger. (each ledger).adds }
 
 pub adds_end : (sums : BTreeMap ℕ ℕ) (rest all : List Listed) → rest ≡ [] → Adds sums rest all
@@ -142,7 +138,7 @@ pub adds_end : (sums : BTreeMap ℕ ℕ) (rest all : List Listed) → rest ≡ [
 adds_end sums rest all none so_far ledger =
     let here : Adds sums [] all = subst (λ (es : List Listed). Adds sums es all) none so_far in
     let adds = here.adds ledger in
-    let same : size_at sums ledger ≡ bytes_in all ledger = omega arith in
+    let same : summed_at sums ledger ≡ bytes_in all ledger = omega arith in
     here.gets ledger ∙ ap sum_of same
 
 -- ---- no sum is too great
@@ -155,7 +151,7 @@ bytes_in-le (entry ∷ entries) ledger =
     omega arith
 
 pub total_below : (sums : BTreeMap ℕ ℕ) (rest next all : List Listed) (owner bytes : ℕ) → Adds sums rest all → IsRunOf owner bytes rest next
-    → AreFrom (past origin) all → size_at sums owner + bytes < 2 ^ 32 + 4
+    → AreFrom (past origin) all → summed_at sums owner + bytes < 2 ^ 32 + 4
 total_below sums rest next all owner bytes so_far run each =
     let adds = so_far.adds owner in
     let here : eqb owner owner ≡ true = eq-eqb owner owner refl in

@@ -8,3 +8,4 @@ pub mod Decodings
 pub mod Adding
 pub mod Turning
 pub mod Runwise
+pub mod Reaching

@@ -7,3 +7,4 @@ pub mod Checking
 pub mod Hint
 pub mod Decoding
 pub mod Sums
+pub mod Cursor

@@ -8,7 +8,7 @@ ghost use Rattle.bk_hint.specs.Runs.{entries_of_runs};
 use crate::checking::last_in;
 use crate::head::Head;
 use crate::noting::note;
-use crate::{Entries, Listed, ListedRuns};
+use crate::{Entries, EntryCursor, Listed, ListedRuns};
 use bk_record::Key;
 use std::alloc::{AllocError, Global};
 use std::marker::Model;
@@ -102,6 +102,14 @@ impl Contents {
         ensures in_order { AreFrom (past origin) self.now }
     {
         ListedRuns::over(&self.heads, &self.steps)
+    }
+
+    /// Returns a cursor that finds entries by their places in the file order, those of rising places
+    /// in one pass.
+    pub fn cursor(&self) -> EntryCursor<'_>
+        ensures { result ≡ self.now }
+    {
+        EntryCursor::over(self)
     }
 
     /// Returns the entry at this place of the file order, `None` if there are not so many. Place 0

@@ -3,6 +3,7 @@
 
 mod checking;
 mod contents;
+mod cursor;
 mod entries;
 mod facts;
 mod fault;
@@ -15,6 +16,7 @@ mod sums;
 mod writing;
 
 pub use contents::Contents;
+pub use cursor::EntryCursor;
 pub use entries::Entries;
 pub use facts::LogFacts;
 pub use fault::HintFault;

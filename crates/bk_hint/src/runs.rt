@@ -81,6 +81,17 @@ impl<'a> ListedRuns<'a> {
             steps,
         }
     }
+
+    /// Returns a copy.
+    pub(crate) fn same(&self) -> ListedRuns<'a>
+        ensures { result ≡ self.now }
+    {
+        ListedRuns {
+            last: self.last.same(),
+            heads: self.heads,
+            steps: self.steps,
+        }
+    }
 }
 
 impl Iterator for ListedRuns<'_> {

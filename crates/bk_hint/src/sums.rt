@@ -1,9 +1,9 @@
 //! Sums of record sizes by ledger.
 
-ghost use Rattle.std.specs.Prelude.{◌≡◌, ℕ, ◌↔◌, IsTrue, IfOk};
+ghost use Rattle.std.specs.Prelude.{◌≡◌, ℕ, ◌+◌, ◌<◌, ◌^◌, ◌↔◌, IsTrue, IfOk, OnOk};
 ghost use Rattle.std.specs.BTreeMap as tree;
 ghost use Rattle.std.specs.Ordering.{nat_cmp};
-ghost use Rattle.bk_hint.specs.Sums.{bytes_in, sum_of, IsMapOf};
+ghost use Rattle.bk_hint.specs.Sums.{bytes_in, summed_at, sum_of, IsSumAdded, IsMapOf};
 
 use crate::Contents;
 use std::alloc::{AllocError, Global};
@@ -20,12 +20,18 @@ pub fn sums_by_ledger(alloc: Global, contents: &Contents) -> Result<BTreeMap<u64
 {
     let mut sums = BTreeMap::new(alloc);
     for run in contents.runs() {
-        let of = run.first.key.ledger();
-        let before = sums.get(&of).copied().unwrap_or(0);
-        let now = before + run.bytes();
-        sums.insert(of, now)?;
+        add(&mut sums, run.first.key.ledger(), run.bytes())?;
     }
     Ok(sums)
+}
+
+/// Adds bytes to the sum of a ledger. Takes one look-up.
+fn add(sums: &mut BTreeMap<u64, u64>, ledger: u64, bytes: u64) -> Result<(), AllocError>
+    requires { summed_at sums.old ledger + bytes < 2 ^ 64 }
+    ensures { OnOk result (IsSumAdded sums.old sums.new ledger bytes) }
+{
+    *sums.entry(ledger)?.or_insert(0) += bytes;
+    Ok(())
 }
 
 /// Returns whether a log's ledgers map is that of these entries: each ledger with a record has the

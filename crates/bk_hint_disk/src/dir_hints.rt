@@ -55,9 +55,9 @@ impl DirHints {
         format!(in self.rt.alloc(); "{}/{log:x}.hint", self.folder)
     }
 
-    /// Opens the hint at a path, `None` if there is none. Follows no link, and opens no named pipe,
-    /// which would wait for a writer.
-    fn opened(&self, path: &str) -> Result<Option<File>, HintStoreFault> {
+    /// Opens the hint at a path, and returns it with its length, `None` if there is none. Follows no
+    /// link, and opens no named pipe, which would wait for a writer.
+    fn opened(&self, path: &str) -> Result<Option<(File, u64)>, HintStoreFault> {
         let found = match fs::symlink_metadata(&self.rt, path) {
             Ok(found) => found,
             Err(error) if error.kind() == ErrorKind::NotFound => return Ok(None),
@@ -70,7 +70,9 @@ impl DirHints {
             return Err(HintStoreFault::Disk);
         };
         match file.metadata() {
-            Ok(now) if now.dev() == found.dev() && now.ino() == found.ino() => Ok(Some(file)),
+            Ok(now) if now.dev() == found.dev() && now.ino() == found.ino() => {
+                Ok(Some((file, now.len())))
+            }
             Ok(_) => Err(HintStoreFault::NotPlain),
             Err(_) => Err(HintStoreFault::Disk),
         }
@@ -105,12 +107,8 @@ impl DirHints {
 /// has less than 2^32 bytes, of which 1024 are its header, and a record has at least 20.
 const LONGEST: u64 = 36 + 28 * ((MAX_LOG_LENGTH - HEADER_LENGTH as u64) / RECORD_HEAD as u64);
 
-/// Returns the bytes of a hint that is open.
-fn bytes_of(alloc: Global, file: &File) -> Result<Vec<u8>, HintStoreFault> {
-    let Ok(found) = file.metadata() else {
-        return Err(HintStoreFault::Disk);
-    };
-    let length = found.len();
+/// Returns the bytes of a hint of this length that is open.
+fn bytes_of(alloc: Global, file: &File, length: u64) -> Result<Vec<u8>, HintStoreFault> {
     if length > LONGEST {
         return Err(HintStoreFault::TooLong(length));
     }
@@ -133,7 +131,7 @@ impl Hints for DirHints {
             return Err(HintStoreFault::Memory);
         };
         match self.opened(path.as_str())? {
-            Some(file) => Ok(Some(bytes_of(alloc, &file)?)),
+            Some((file, length)) => Ok(Some(bytes_of(alloc, &file, length)?)),
             None => Ok(None),
         }
     }

@@ -1,12 +1,12 @@
 //! A few records of a log, compared with what a hint lists.
 
-ghost use Rattle.std.specs.Prelude.{IsTrue, IsOk, IfOk, OnOk};
+ghost use Rattle.std.specs.Prelude.{◌≡◌, IsTrue, IsOk, IfOk, OnOk};
 ghost use Rattle.std.specs.List.{All};
 ghost use Rattle.bk_hint_disk.specs.Usable.{AreProbesOf, IsHead, IsMet, IsNoted};
 
 use crate::WhyNot;
 use bk_disk::{DiskFault, LogView};
-use bk_hint::{Contents, Listed};
+use bk_hint::{Contents, Listed, EntryCursor};
 use bk_record::{LENGTH_FIELD, RECORD_HEAD};
 use byteorder::{BigEndian, ByteOrder};
 use std::alloc::{AllocError, Global};
@@ -23,7 +23,7 @@ pub(crate) struct Probe {
 }
 
 /// Returns at most 16 records of these entries: the first one, the last one, and those between at
-/// even distances. Takes steps in the number of runs.
+/// even distances. Passes the runs twice.
 ///
 /// # Errors
 ///
@@ -36,20 +36,22 @@ pub(crate) fn probes_of(alloc: Global, contents: &Contents) -> Result<Vec<Probe>
         return Ok(probes);
     };
     let spacing = last / EVEN + 1;
+    let mut cursor = contents.cursor();
     let mut place = 0;
     while place < last {
-        note(&mut probes, contents, place)?;
+        note(&mut probes, &mut cursor, place)?;
         place = place.saturating_add(spacing);
     }
-    note(&mut probes, contents, last)?;
+    note(&mut probes, &mut cursor, last)?;
     Ok(probes)
 }
 
 /// Appends the record of the entry at this place, if there is one.
-fn note(probes: &mut Vec<Probe>, contents: &Contents, place: u64) -> Result<(), AllocError>
-    ensures { OnOk result (IsNoted contents.now place probes.old.items probes.new.items) }
+fn note(probes: &mut Vec<Probe>, cursor: &mut EntryCursor<'_>, place: u64) -> Result<(), AllocError>
+    ensures same { cursor.new ≡ cursor.old }
+    ensures noted { OnOk result (IsNoted cursor.old place probes.old.items probes.new.items) }
 {
-    if let Some(entry) = contents.nth(place) {
+    if let Some(entry) = cursor.nth(place) {
         let at = entry.at.saturating_sub(LENGTH_FIELD as u64);
         probes.push(Probe { at, entry })?;
     }

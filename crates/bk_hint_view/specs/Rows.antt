@@ -1,11 +1,12 @@
 -- The rows of a table: runs of entries, whose records have to be in the log. Read `IsTrueTable` first.
-use Rattle.std.specs.Prelude.{◌≡◌, ℕ, ◌+◌, ◌-◌, ◌*◌, ◌≤◌, ◌==◌, ◌&&◌, Bool, true, false, List, [], ◌∷◌, ◌++◌, drop, slice_get, Some}
+use Rattle.std.specs.Prelude.{◌≡◌, ℕ, ◌+◌, ◌-◌, ◌*◌, ◌^◌, ◌<◌, ◌≤◌, ◌==◌, ◌&&◌, Bool, true, false, List, [], ◌∷◌, ◌++◌, drop, slice_get, Some}
 use Rattle.std.specs.Int.{w32, w64, to_be_bytes}
 use Rattle.std.specs.List.{All}
 use Rattle.bk_disk.specs.Blocks.{HasPrefix}
 use Rattle.bk_disk.specs.declared.record_run.RecordRun.{RecordRun}
 use Rattle.bk_hint.specs.declared.listed.Listed.{Listed}
 use Rattle.bk_hint.specs.declared.runs.ListedRun.{ListedRun}
+use Rattle.bk_hint.specs.Checking.{repeated_by}
 use Rattle.bk_hint.specs.Runs.{entries_of_runs}
 
 -- first 20 bytes of an entry's record: length of the payload in four bytes, ledger id and entry id in
@@ -35,6 +36,12 @@ are_records file (entry ∷ entries) = is_front (head_of entry) (drop (entry.at 
 -- `IsTrueTable`, as a test
 abbrev pub is_true_table : List ListedRun → List ℕ → Bool
 is_true_table rows bytes = are_records bytes (entries_of_runs rows)
+
+-- The run goes on directly behind another: with the next entry id, at the next position, and with
+-- records of its size. Both together fit in one.
+pub record IsNextRun (last run : ListedRun) : Type 0 where
+  pub first_is : run.first ≡ repeated_by (last.again + 1) last.first
+  pub fits : last.again + run.again + 1 < 2 ^ 32
 
 -- The records are those of a run from the one whose payload is at this position on: all of them, or
 -- fewer.

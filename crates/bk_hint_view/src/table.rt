@@ -1,8 +1,8 @@
 //! The records of a log, in memory.
 
-ghost use Rattle.std.specs.Prelude.{◌≡◌, IfOk, IfSome, length};
+ghost use Rattle.std.specs.Prelude.{◌≡◌, [], ◌∷◌, ◌++◌, IsTrue, IfOk, IfSome, OnOk, length};
 ghost use Rattle.bk_hint.specs.Runs.{entries_of_runs};
-ghost use Rattle.bk_hint_view.specs.Rows.{IsRestIn, IsRestOf};
+ghost use Rattle.bk_hint_view.specs.Rows.{IsNextRun, IsRestIn, IsRestOf};
 
 use bk_disk::RecordRun;
 use bk_hint::{Contents, ListedRun};
@@ -27,6 +27,7 @@ impl Model for Table {
 
 impl Table {
     /// Returns the table of the entries of a log. Allocates some 40 bytes for each run of entries.
+    /// Runs of one size, one directly behind the other, are joined.
     ///
     /// # Errors
     ///
@@ -36,7 +37,7 @@ impl Table {
     {
         let mut rows = Vec::new(alloc);
         for run in contents.runs() {
-            rows.push(run)?;
+            add(&mut rows, run)?;
         }
         Ok(Table { rows })
     }
@@ -60,6 +61,45 @@ impl Table {
         let row = self.rows.get(behind.checked_sub(1)?)?;
         rest_of(row, payload)
     }
+}
+
+/// Adds a run: to the last one, if it goes on directly behind it.
+fn add(rows: &mut Vec<ListedRun>, run: ListedRun) -> Result<(), AllocError>
+    ensures { OnOk result (entries_of_runs rows.new.items ≡ entries_of_runs (rows.old.items ++ run ∷ [])) }
+{
+    let count = rows.len();
+    if count > 0 && goes_on(&rows[count - 1], &run) {
+        rows[count - 1].again += run.again + 1;
+        return Ok(());
+    }
+    rows.push(run)?;
+    Ok(())
+}
+
+/// Returns whether a run goes on directly behind another, with records of its size, and both fit in
+/// one.
+#[tactic(auto, using(bk_hint::proofs::Checks::product_below))]
+fn goes_on(last: &ListedRun, run: &ListedRun) -> bool
+    ensures { IsTrue result → IsNextRun last.now run.now }
+{
+    let (first, next) = (last.first.key, run.first.key);
+    if next.ledger() != first.ledger() || run.first.size != last.first.size {
+        return false;
+    }
+    let Some(bytes) = run.first.at.checked_sub(last.first.at) else {
+        return false;
+    };
+    let size = u64::from(last.first.size);
+    let Some(count) = bytes.checked_div(size) else {
+        return false;
+    };
+    if count != u64::from(last.again) + 1 || count * size != bytes {
+        return false;
+    }
+    if next.entry() != first.entry() + count {
+        return false;
+    }
+    u64::from(run.again) + count <= u64::from(u32::MAX)
 }
 
 /// Returns the records of a run from the one whose payload is at this position on.

@@ -56,12 +56,16 @@ fn runs_and_places_are_those_of_the_entries(rt: HostRuntime) -> Result<(), Fail>
             entries.as_slice(),
             "{seed}"
         );
+        let mut cursor = contents.cursor();
         let mut place: u64 = 0;
         for entry in contents.iter() {
             assert_eq!(rt; contents.nth(place), Some(entry), "{seed}");
+            assert_eq!(rt; cursor.nth(place), Some(entry), "{seed}");
             place = place.wrapping_add(1);
         }
         assert_eq!(rt; contents.nth(place), None);
+        assert_eq!(rt; cursor.nth(place), None);
+        assert_eq!(rt; cursor.nth(0), contents.nth(0));
         assert_eq!(rt; contents.nth(u64::MAX), None);
     }
     Ok(())
