@@ -113,6 +113,15 @@ module _ {X : Type 0} (fences : List EntryKey) (pages : List (List (EntryKey × 
     few = omega (arith, length-insert pages at page within);
   }
 
+  -- adding a page behind all others
+  pub fenced_push : (key : EntryKey) (page : List (EntryKey × X)) → key ≡ first_key page → length pages < 2 ^ 55 → IsSized page
+      → AreFenced (fences ++ key ∷ []) (pages ++ page ∷ [])
+  fenced_push key page first room sized = record {
+    fenced = ap (λ fs. fs ++ key ∷ []) are.fenced ∙ ap (λ k. map first_key pages ++ k ∷ []) first ∙ sym (map-append pages (page ∷ []));
+    sizes = All-append IsSized pages (page ∷ []) are.sizes (All-cons IsSized page [] sized (λ i d within. absurd (omega arith)));
+    few = omega (arith, length-append pages (page ∷ []));
+  }
+
   -- removing a range of pages
   pub fenced_cut : (from to : ℕ) → from ≤ to → AreFenced (take from fences ++ drop to fences) (take from pages ++ drop to pages)
   fenced_cut from to order = record {

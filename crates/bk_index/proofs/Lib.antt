@@ -19,3 +19,8 @@ pub mod PackedSearch
 pub mod PackedPlaces
 pub mod Halves
 pub mod Runs
+pub mod RunPairs
+pub mod RunPages
+pub mod FilledRuns
+pub mod Logged
+pub mod Passing

@@ -4,3 +4,5 @@ pub mod Pages
 pub mod Packed
 pub mod Forms
 pub mod Runs
+pub mod Building
+pub mod Passing

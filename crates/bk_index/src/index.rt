@@ -101,7 +101,7 @@ impl Index {
     }
 
     // Same as `insert`. Tries the page of this number first, and sets it to that of the key.
-    #[inline]
+    #[inline(always)]
     fn insert_near(
         &mut self,
         key: Key,

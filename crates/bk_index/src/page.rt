@@ -15,12 +15,13 @@ use std::marker::Model;
 
 mod edits;
 mod halves;
+mod logs;
 mod offset;
 mod packed;
 mod part;
 mod plain;
 
-pub(crate) use halves::MOST;
+pub(crate) use halves::{LOWER, MOST};
 use packed::Packed;
 pub(crate) use part::Part;
 use plain::Plain;
@@ -139,6 +140,7 @@ impl Page {
 
     /// Returns the place of a key, or the place where it would be inserted. Keys mostly rise, so it
     /// tries the end first.
+    #[inline(always)]
     pub(crate) fn place_for(&self, key: &Key) -> Result<usize, usize>
         ensures found { IfOk result (IsAt self.now key.now) }
         ensures absent { IfErr result (IsGapFor self.now key.now) }
@@ -146,6 +148,15 @@ impl Page {
         match &*self.form {
             Form::Packed(packed) => packed.place_for(key),
             Form::Plain(plain) => plain.place_for(key),
+        }
+    }
+
+    /// Whether the page, as it is, has no room for a new key: it has 256, or the key does not fit the
+    /// packed form. A plain page has none.
+    pub(crate) fn is_full_for(&self, key: &Key) -> bool {
+        match &*self.form {
+            Form::Packed(packed) => packed.is_full_for(key),
+            Form::Plain(_) => true,
         }
     }
 

@@ -17,6 +17,7 @@ use std::marker::Model;
 
 mod in_order;
 mod ledger;
+mod runs;
 
 /// The pages of an index. Each has from 1 to 256 entries.
 #[derive(Debug, Drop)]
@@ -98,7 +99,7 @@ impl Pages {
     }
 
     // Same as `home_for`, but tries a page first: any number can be given.
-    #[inline]
+    #[inline(always)]
     fn home_near(&self, key: &Key, page: usize) -> usize
         requires { IsTrue (is_sorted key_cmp (all_pairs self.now)) }
         ensures home { IsHome key.now self.now result }

@@ -1,9 +1,10 @@
 //! Walk over an index in key order. It still has to visit the rest of a page, the pages after it,
 //! and pairs of the page after those.
 
-ghost use Rattle.std.specs.Prelude.{◌≡◌, ◌<◌, ◌++◌, [], length, All};
+ghost use Rattle.std.specs.Prelude.{◌≡◌, ◌<◌, ◌++◌, [], length, All, IsNone, IfSome};
 ghost use Rattle.std.specs.Iterator.{YieldsFirst, item_count};
 ghost use Rattle.bk_index.specs.Pages.{all_pairs};
+ghost use Rattle.bk_index.specs.Passing.{PassesLog};
 
 use crate::page::{Page, Part};
 use bk_record::{Key, Location};
@@ -38,6 +39,23 @@ impl<'a> Walk<'a> {
         ensures { result ≡ page.entry ++ (all_pairs pages.now ++ last.entry) }
     {
         Walk { page, pages, last }
+    }
+
+    /// Passes the next entries, all of one page whose locations are in the log of the next one, and
+    /// returns the log and their number, which is at least 1. `None` at the end.
+    pub fn pass_log(&mut self) -> Option<(u32, u64)>
+        ensures none { IsNone result → (self.old ≡ []) × (self.new ≡ []) }
+        ensures some { IfSome result (λ passed. PassesLog self.old passed.0 passed.1 self.new) }
+    {
+        if let Some(passed) = self.page.pass_log() {
+            return Some(passed);
+        }
+        if let Some((page, pages)) = self.pages.split_first() {
+            self.page = page.pairs();
+            self.pages = pages;
+            return self.page.pass_log();
+        }
+        self.last.pass_log()
     }
 }
 

@@ -1,6 +1,6 @@
 //! The index compared with a plain list, its pages, and a large index.
 
-ghost use Rattle.std.specs.Prelude.{◌<◌, ◌≤◌, ◌^◌};
+ghost use Rattle.std.specs.Prelude.{◌≡◌, ◌<◌, ◌≤◌, ◌^◌};
 
 use bk_index::Index;
 use bk_record::{Key, Location};
@@ -8,6 +8,7 @@ use std::alloc::AllocError;
 use std::process::Abort;
 use std::test::Fail;
 
+mod builder;
 mod pages;
 mod plain;
 mod runs;
@@ -15,6 +16,7 @@ mod runs;
 fn key(ledger: u64, entry: u64) -> Key
     requires ledger { ledger < 2 ^ 63 }
     requires entry { entry < 2 ^ 63 }
+    ensures { result ≡ record { ledger = ledger; entry = entry } }
 {
     Key::new(ledger, entry).unwrap()
 }
@@ -22,6 +24,7 @@ fn key(ledger: u64, entry: u64) -> Key
 fn place(log: u32, at: u32) -> Location
     requires log { log < 2 ^ 31 }
     requires at { 1028 ≤ at }
+    ensures { result ≡ record { log = log; at = at } }
 {
     Location::pack(log, at).unwrap()
 }

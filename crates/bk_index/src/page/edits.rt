@@ -1,14 +1,18 @@
 //! Changes to a page.
 
-ghost use Rattle.std.specs.Prelude.{◌≡◌, ◌↔◌, ◌<◌, ◌+◌, ◌^◌, ◌++◌, length, not, ◌==◌, filter, Some, None, IsTrue, IsSome, IfSome, IfNone, IfOk, OnOk, OnErr};
+ghost use Rattle.std.specs.Prelude.{◌≡◌, ◌↔◌, ◌<◌, ◌≤◌, ◌+◌, ◌*◌, ◌^◌, ◌++◌, length, not, ◌==◌, filter, Some, None, IsTrue, IsSome, IfSome, IfNone, IfOk, OnOk, OnErr};
 ghost use Rattle.std.specs.Bool.{OnTrue, OnFalse};
+ghost use Rattle.std.specs.List.{AllByRecursion};
+ghost use Rattle.std.specs.declared.cmp.Ordering.TheVariants.{Less};
 ghost use Rattle.std.specs.FinMap.{find, put};
 ghost use Rattle.bk_record.specs.Key.{key_cmp};
 ghost use Rattle.bk_index.specs.Sorted.{IsAt, IsGapFor};
 ghost use Rattle.bk_index.specs.Pages.{first_key};
 ghost use Rattle.bk_index.specs.Forms.{form_pairs};
+ghost use Rattle.bk_index.specs.Runs.{pairs_of_run};
 
 use super::halves::{LOWER, MOST};
+use super::packed::Packed;
 use super::plain::Plain;
 use super::{Form, Page};
 use bk_record::{Key, Location};
@@ -99,6 +103,51 @@ impl Page {
         match &mut *self.form {
             Form::Packed(packed) => packed.push(key, location),
             Form::Plain(_) => Ok(false),
+        }
+    }
+
+    /// Returns a page of the first keys of a run, at least one, with room for 256, and their number:
+    /// as many as fit a packed page.
+    pub(crate) fn of_run(
+        alloc: Global,
+        key: &Key,
+        place: Location,
+        size: u32,
+        count: u32,
+    ) -> Result<(Page, u32), AllocError>
+        requires some { 0 < count }
+        requires places { place.at + count * size < 2 ^ 32 + size }
+        ensures pairs { IfOk result (λ made. made.0 ≡ pairs_of_run key.now place size made.1) }
+        ensures some { IfOk result (λ made. 0 < made.1) }
+        ensures bound { IfOk result (λ made. made.1 ≤ count) }
+        ensures room { IfOk result (λ made. made.1 ≤ 256) }
+    {
+        let (packed, number) = Packed::of_run(alloc, key, place, size, count)?;
+        let page = Page::of_form(alloc, Form::Packed(packed))?;
+        Ok((page, number))
+    }
+
+    /// Adds the first keys of a run after all others, and returns their number: 0 for a plain page.
+    /// Otherwise as many as fit, or none if the key does not fit or is not after all others. If an
+    /// allocation fails, the page is unchanged.
+    pub(crate) fn push_run(
+        &mut self,
+        key: &Key,
+        place: Location,
+        size: u32,
+        count: u32,
+    ) -> Result<u32, AllocError>
+        requires { place.at + count * size < 2 ^ 32 + size }
+        ensures pushed { IfOk result (λ n. self.new ≡ self.old ++ pairs_of_run key.now place size n) }
+        ensures behind { IfOk result (λ n. 0 < n → AllByRecursion (λ pair. key_cmp pair.0 key.now ≡ Less) self.old) }
+        ensures bound { IfOk result (λ n. n ≤ count) }
+        ensures room { IfOk result (λ n. length self.old ≤ 256 → length self.new ≤ 256) }
+        ensures first { IfOk result (λ n. first_key self.new ≡ first_key self.old) }
+        ensures err { OnErr result (self.new ≡ self.old) }
+    {
+        match &mut *self.form {
+            Form::Packed(packed) => packed.push_run(key, place, size, count),
+            Form::Plain(_) => Ok(0),
         }
     }
 

@@ -5,7 +5,7 @@ ghost use Rattle.std.specs.Prelude.{◌≡◌, ◌<◌, ◌≤◌, ◌+◌, ◌^
 use bk_record::Key;
 
 /// Number of entry ids from a base on that have an offset.
-const SPAN: u64 = 1 << 32;
+pub(crate) const SPAN: u64 = 1 << 32;
 
 /// Returns the base of the page of an entry: entries have the same base if their ids differ only in
 /// the lower 32 bits.

@@ -8,6 +8,7 @@ ghost use Rattle.bk_index.specs.Sorted.{IsAt, IsGapFor};
 ghost use Rattle.bk_index.specs.Pages.{first_key};
 
 use super::halves::{MOST, halves};
+use super::logs::{UNKNOWN, joint};
 use super::offset::{base_of, entry_at, key_at, offset_in};
 use super::part::Part;
 use super::plain::Plain;
@@ -17,6 +18,7 @@ use std::marker::Model;
 
 mod convert;
 mod in_order;
+mod runs;
 
 /// Pairs of a key and a location, sorted by key, all of one ledger. Each is a cell: the offset of
 /// its entry id from `base`, and its location.
@@ -24,6 +26,8 @@ mod in_order;
 pub(crate) struct Packed {
     ledger: u64,
     base: u64,
+    /// The log of all locations if it is known, else `UNKNOWN`.
+    log: u32,
     cells: Vec<(u32, Location)>,
 }
 
@@ -32,14 +36,15 @@ impl Model for Packed {
     ghost use Rattle.std.specs.FinMap.{is_sorted};
     ghost use Rattle.bk_record.specs.Key.{EntryKey, key_cmp};
     ghost use Rattle.bk_record.specs.Location.{Place};
-    ghost use Rattle.bk_index.specs.Packed.{cell_pairs};
+    ghost use Rattle.bk_index.specs.Packed.{cell_pairs, AreInLog};
 
     ghost Value = { List (EntryKey × Place) };
 
     ghost view = { λ page. cell_pairs page.ledger page.base page.cells.items };
 
     ghost invariant = { λ page. (page.ledger < 2 ^ 63) × (page.base + 2 ^ 32 ≤ 2 ^ 63)
-        × IsTrue (is_sorted key_cmp (cell_pairs page.ledger page.base page.cells.items)) };
+        × IsTrue (is_sorted key_cmp (cell_pairs page.ledger page.base page.cells.items))
+        × AreInLog page.log page.cells.items };
 }
 
 impl Packed {
@@ -54,6 +59,7 @@ impl Packed {
         Ok(Packed {
             ledger,
             base,
+            log: location.log(),
             cells,
         })
     }
@@ -77,7 +83,7 @@ impl Packed {
     pub(crate) fn pairs(&self) -> Part<'_>
         ensures { result ≡ self.now }
     {
-        Part::of_cells(self.ledger, self.base, &self.cells)
+        Part::of_cells(self.ledger, self.base, self.log, &self.cells)
     }
 
     /// Returns the pairs of a ledger: all or none.
@@ -168,6 +174,7 @@ impl Packed {
     {
         let (offset, before) = self.cells[place];
         self.cells[place] = (offset, to);
+        self.log = UNKNOWN;
         before
     }
 
@@ -193,6 +200,7 @@ impl Packed {
             return Ok(false);
         }
         self.cells.push((offset, location))?;
+        self.log = joint(self.log, &location);
         Ok(true)
     }
 
@@ -212,6 +220,7 @@ impl Packed {
         match offset_in(self.ledger, self.base, key) {
             Some(offset) => {
                 self.cells.insert(place, (offset, location))?;
+                self.log = UNKNOWN;
                 Ok(true)
             }
             None => Ok(false),
@@ -239,11 +248,13 @@ impl Packed {
         let lower = Packed {
             ledger: self.ledger,
             base: self.base,
+            log: UNKNOWN,
             cells: lower,
         };
         let upper = Packed {
             ledger: self.ledger,
             base: self.base,
+            log: UNKNOWN,
             cells: upper,
         };
         Ok(Some((lower, upper)))

@@ -9,13 +9,13 @@ use std::process::Abort;
 use std::test::Fail;
 
 // Distance of the places of a run, in bytes.
-const SIZE: u32 = 1024;
+pub(super) const SIZE: u32 = 1024;
 
 // A run: a ledger, the first entry id, the log, and the number of keys.
 #[derive(Clone, Copy, Debug)]
-struct Run(u32, u32, u16, u16);
+pub(super) struct Run(pub u32, pub u32, pub u16, pub u16);
 
-const RUNS: [Run; 14] = [
+pub(super) const RUNS: [Run; 14] = [
     // The index is empty; pages are full and are split.
     Run(2, 0, 0, 300),
     Run(4, 1000, 0, 600),
@@ -39,7 +39,11 @@ const RUNS: [Run; 14] = [
     Run(0, u32::MAX - 1000, 12, 3000),
 ];
 
-fn insert_one_by_one(rt: &impl Abort, index: &mut Index, run: Run) -> Result<(), AllocError> {
+pub(super) fn insert_one_by_one(
+    rt: &impl Abort,
+    index: &mut Index,
+    run: Run,
+) -> Result<(), AllocError> {
     let Run(ledger, entry, log, count) = run;
     for number in 0..count {
         let key = key(u64::from(ledger), u64::from(entry) + u64::from(number));
@@ -57,7 +61,7 @@ fn insert_run(index: &mut Index, run: Run) -> Result<(), AllocError> {
     index.insert_run(first, to, SIZE, u32::from(count))
 }
 
-fn same_pairs(rt: &impl Abort, index: &Index, other: &Index) {
+pub(super) fn same_pairs(rt: &impl Abort, index: &Index, other: &Index) {
     assert_eq!(rt; index.len(), other.len());
     let mut others = other.walk();
     for pair in index.walk() {

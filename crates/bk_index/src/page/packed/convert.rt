@@ -5,6 +5,7 @@ ghost use Rattle.std.specs.FinMap.{is_sorted};
 ghost use Rattle.bk_record.specs.Key.{key_cmp};
 
 use super::Packed;
+use crate::page::logs::UNKNOWN;
 use crate::page::offset::{base_of, key_at, offset_in};
 use crate::page::plain::Plain;
 use bk_record::{Key, Location};
@@ -52,6 +53,7 @@ impl Packed {
         Ok(Some(Packed {
             ledger,
             base,
+            log: UNKNOWN,
             cells,
         }))
     }

@@ -1,12 +1,26 @@
 use Rattle.std.proofs.Common.{◌<◌, ◌+◌, ◌-◌, ◌++◌, length, take, drop, ap, sym, ◌∙◌, arith}
 use Rattle.std.specs.Bool.{◌==◌}
-use Rattle.std.specs.List.{filter}
+use Rattle.std.specs.List.{filter, All}
+use Rattle.std.proofs.lemmas.List.Elements.{All-take, All-drop}
 use Rattle.bk_record.specs.Key.{EntryKey}
 use Rattle.bk_record.specs.Location.{Place}
 use Rattle.bk_index.specs.Pages.{all_pairs}
 use Rattle.bk_index.proofs.FencedPages.{few_of}
 use Rattle.bk_index.proofs.LedgerPairs.{held_none, held_one, held_many, part_length, part_first, part_last, part_between}
 use Rattle.bk_index.proofs.pages.Pages.walk_ledger.Goals as goal
+
+-- the pages between the first and the last are not empty, as all pages
+pub over-requires-in-len2-up : goal.over-requires-in-len2-up
+over-requires-in-len2-up c =
+    let from = c.pages_of-from.result.0 in
+    let to = c.pages_of-from.result.1 in
+    let pages = c.deref.result.now in
+    let filled : All (λ page. 0 < length page) pages =
+    rw c.deref.ensures.value (λ i d within. let sized = c.self.invariant.sizes i d within in omega (arith, sized.0)) in
+    let held = take (to - from) (drop from pages) in
+    All-take (λ page. 0 < length page) (length held - 1 - 1) (drop 1 held)
+    (All-drop (λ page. 0 < length page) 1 held
+    (All-take (λ page. 0 < length page) (to - from) (drop from pages) (All-drop (λ page. 0 < length page) from pages filled)))
 
 pub returns-in-empty-clause-items : goal.returns-in-empty-clause-items
 returns-in-empty-clause-items c =

@@ -1,3 +1,4 @@
+use Rattle.std.proofs.Common.{arith}
 use Rattle.bk_index.specs.Packed.{cell_pairs}
 use Rattle.bk_index.proofs.PagePairs.{is_sorted_parts}
 use Rattle.bk_index.proofs.PackedPairs.{cells_parts}
@@ -14,6 +15,7 @@ invariant_of-lower c =
       c.self.invariant.1,
       (is_sorted_parts (cell_pairs page.ledger page.base page.cells.items) c.self.invariant.2 c.args.key.now c.args.location
           (cell_pairs page.ledger page.base c.in_ok-lower.lower.items) (cell_pairs page.ledger page.base c.in_ok-lower.upper.items) is).0,
+      λ known. absurd (omega (arith, known)),
     )
 
 pub invariant_of-upper : goal.invariant_of-upper
@@ -27,6 +29,7 @@ invariant_of-upper c =
       c.self.invariant.1,
       (is_sorted_parts (cell_pairs page.ledger page.base page.cells.items) c.self.invariant.2 c.args.key.now c.args.location
           (cell_pairs page.ledger page.base c.in_ok-lower.lower.items) (cell_pairs page.ledger page.base c.in_ok-lower.upper.items) is).1,
+      λ known. absurd (omega (arith, known)),
     )
 
 pub returns-clause-ok : goal.returns-clause-ok

@@ -1,4 +1,4 @@
-use Rattle.std.proofs.Common.{sym}
+use Rattle.std.proofs.Common.{sym, arith}
 use Rattle.bk_index.proofs.PagePairs.{is_sorted_put_page}
 use Rattle.bk_index.proofs.PackedPairs.{cells_put}
 use Rattle.bk_index.proofs.page.packed.Packed.insert.Goals as goal
@@ -12,6 +12,7 @@ invariant_of-self-in-Some c =
       c.self.invariant.0,
       c.self.invariant.1,
       rw (c.in_ok-insert-in-Some.ensures.items, ← is) (is_sorted_put_page _ c.self.invariant.2 c.args.key.now c.args.location),
+      λ known. absurd (omega (arith, known)),
     )
 
 pub returns-in_ok-insert-in-Some-clause-ok : goal.returns-in_ok-insert-in-Some-clause-ok

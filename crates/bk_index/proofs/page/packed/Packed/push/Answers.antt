@@ -1,6 +1,7 @@
 use Rattle.std.proofs.Common.{◌≡◌, length, sym, ◌∙◌, arith}
 use Rattle.bk_index.proofs.PagePairs.{find_absent, is_sorted_put_page, on_err}
 use Rattle.bk_index.proofs.PackedPlaces.{gap_at_last, put_last}
+use Rattle.bk_index.proofs.Logged.{in_log_more}
 use Rattle.bk_index.proofs.page.packed.Packed.push.Goals as goal
 
 pub invariant_of-self-2 : goal.invariant_of-self-2
@@ -12,6 +13,7 @@ invariant_of-self-2 c =
       c.self.invariant.0,
       c.self.invariant.1,
       rw (c.in_ok-push.ensures.items, ← is) (is_sorted_put_page _ c.self.invariant.2 c.args.key.now c.args.location),
+      rw c.in_ok-push.ensures.items (in_log_more page.log page.cells.items (c.in-Some.offset, c.args.location) c.self.invariant.3 c.joint-self-inside.result c.joint-self-inside.ensures),
     )
 
 pub returns-clause-pushed : goal.returns-clause-pushed
