@@ -1,7 +1,7 @@
 -- The accounts of logs that are tallied entry by entry: the sums over the entries found.
-use Rattle.std.proofs.Common.{◌≡◌, ℕ, ◌+◌, ◌<◌, ◌≤◌, ◌^◌, Bool, true, false, ◌==◌, if◌then◌else◌, List, [], ◌∷◌, ◌++◌, length, Some, None, Option}
-use Rattle.std.proofs.Common.{IfSome, Result, Ok, Err, is_err, OnOk, refl, sym, ap, subst, ◌∙◌, append_assoc, arith, eq-eqb}
-use Rattle.std.specs.List.{count_by}
+use Rattle.std.proofs.Common.{◌≡◌, ℕ, suc, ◌+◌, ◌<◌, ◌≤◌, ◌^◌, Bool, true, false, ◌==◌, if◌then◌else◌, List, [], ◌∷◌, ◌++◌, length, Some, None, Option}
+use Rattle.std.proofs.Common.{IfSome, Result, Ok, Err, is_err, OnOk, refl, sym, ap, subst, ◌∙◌, append_assoc, length-append, arith, eq-eqb}
+use Rattle.std.specs.List.{count_by, AllByRecursion}
 use Rattle.std.specs.Option.{option_map}
 use Rattle.std.proofs.lemmas.List.{append-nil}
 use Rattle.std.proofs.lemmas.List.Sums.{sum_by-cons}
@@ -15,6 +15,7 @@ use Rattle.bk_accounts.proofs.CallerLaws.{sums_open, sums_ready, sums_count, sum
 use Rattle.bk_accounts.proofs.BookLaws.{named_in-after_name, named_in-after_names, total_in-after_ready}
 use Rattle.bk_accounts.proofs.ManyCalls.{names_more, names_none}
 use Rattle.bk_accounts.proofs.Listings.{swapped}
+use Rattle.bk_index.specs.Passing.{PassesLog}
 use Rattle.bk_store.specs.Found.{LogRead, with_entry, with_entries, with_read, with_reads, named_by, AreUnnamed}
 use Rattle.bk_store.specs.declared.open.tally.Tally.{Tally}
 
@@ -160,13 +161,6 @@ pub within_name : (most : ℕ) (book : Book) (log : ℕ) → NamedWithin most bo
 within_name most book log within q =
     subst (λ o. IfSome o (λ named. named ≤ most + 1)) (sym (named_in-after_name book log q)) (one_more_name most (named_in book q) (q == log) (within q))
 
-fewer_fit : (most : ℕ) (o : Option ℕ) → most + 1 < 2 ^ 64 → IfSome o (λ named. named ≤ most) → IfSome o (λ named. named + 1 < 2 ^ 64)
-fewer_fit most None few within = tt
-fewer_fit most (Some n) few within = omega (arith, few, within)
-
-pub name_fits : (most : ℕ) (book : Book) (log : ℕ) → most + 1 < 2 ^ 64 → NamedWithin most book → IfSome (named_in book log) (λ named. named + 1 < 2 ^ 64)
-name_fits most book log few within = fewer_fit most (named_in book log) few (within log)
-
 -- ---- a walk over the pairs of an index that names their logs
 
 -- the pairs that are left name their logs as all of them do, and no log has more names than pairs
@@ -178,9 +172,6 @@ pub record IsNaming (pairs : List (EntryKey × Place)) (old : Book) (left : List
   pub named : named_by left now ≡ named_by pairs old
 
 module _ {pairs left : List (EntryKey × Place)} {old now : Book} {e : EntryKey × Place} (so_far : IsNaming pairs old (e ∷ left) now) where
-  pub naming_fits : length pairs < 2 ^ 64 → IfSome (named_in now e.1.log) (λ named. named + 1 < 2 ^ 64)
-  naming_fits few = name_fits so_far.passed now e.1.log (omega (arith, few, so_far.counted)) so_far.within
-
   pub naming_on : IsNaming pairs old left (after_name now e.1.log)
   naming_on = record {
     passed = so_far.passed + 1;
@@ -195,48 +186,40 @@ none_within : (o : Option ℕ) → IfSome o (λ named. named ≡ 0) → IfSome o
 none_within None none = tt
 none_within (Some n) none = omega (arith, none)
 
--- So many pairs of a log were passed that its account does not count yet.
-pub record IsCounting (pairs : List (EntryKey × Place)) (old : Book) (left : List (EntryKey × Place)) (log count : ℕ) (now : Book) : Type 0 where
-  pub naming : IsNaming pairs old left (after_names now log count)
-  pub few : count + length left ≤ length pairs
-
-pub counting_first : (pairs : List (EntryKey × Place)) (book : Book) (log : ℕ) → AreUnnamed book → IsCounting pairs book pairs log 0 book
-counting_first pairs book log unnamed = record {
-  naming = subst (IsNaming pairs book pairs) (sym (names_none book log)) (record {
-    passed = 0;
-    counted = omega arith;
-    within = λ q. none_within (named_in book q) (unnamed q);
-    named = refl;
-  });
-  few = omega arith;
+pub naming_first : (pairs : List (EntryKey × Place)) (book : Book) → AreUnnamed book → IsNaming pairs book pairs book
+naming_first pairs book unnamed = record {
+  passed = 0;
+  counted = omega arith;
+  within = λ q. none_within (named_in book q) (unnamed q);
+  named = refl;
 }
 
-counted_within : (log count most : ℕ) (o : Option ℕ) → most < 2 ^ 64
-    → IfSome (option_map (λ named. if log == log then named + count else named) o) (λ named. named ≤ most) → IfSome o (λ named. named + count < 2 ^ 64)
-counted_within log count most None few within = tt
-counted_within log count most (Some n) few within =
-    let here : n + count ≤ most = subst (λ b. (if b then n + count else n) ≤ most) (eq-eqb log log refl) within in omega (arith, few, here)
+many_fit : (most count : ℕ) (o : Option ℕ) → most + count < 2 ^ 64 → IfSome o (λ named. named ≤ most) → IfSome o (λ named. named + count < 2 ^ 64)
+many_fit most count None few within = tt
+many_fit most count (Some n) few within = omega (arith, few, within)
 
-module _ {pairs left : List (EntryKey × Place)} {old now : Book} {log count : ℕ} where
-  pub counting_fits : IsCounting pairs old left log count now → length pairs < 2 ^ 64 → IfSome (named_in now log) (λ named. named + count < 2 ^ 64)
-  counting_fits so_far few =
-      let naming = so_far.naming in
-      counted_within log count naming.passed (named_in now log) (omega (arith, few, naming.counted))
-      (subst (λ o. IfSome o (λ named. named ≤ naming.passed)) (named_in-after_names now log count log) (naming.within log))
+module _ {pairs : List (EntryKey × Place)} {old : Book} (now : Book) (log : ℕ) where
+  -- pairs of the log, behind so many that were counted
+  naming_more : (count : ℕ) (passed left : List (EntryKey × Place)) → AllByRecursion (λ pair. pair.1.log ≡ log) passed
+      → IsNaming pairs old (passed ++ left) (after_names now log count) → IsNaming pairs old left (after_names now log (count + length passed))
+  naming_more count [] left same so_far =
+      let none : count ≡ count + 0 = omega arith in
+      subst (λ n. IsNaming pairs old left (after_names now log n)) none so_far
+  naming_more count (e ∷ passed) left same so_far =
+      let next = ap (after_name (after_names now log count)) same.0 ∙ names_more now log count in
+      let many : (count + 1) + length passed ≡ count + suc (length passed) = omega arith in
+      subst (λ n. IsNaming pairs old left (after_names now log n)) many
+      (naming_more (count + 1) passed left same.1 (subst (IsNaming pairs old (passed ++ left)) next (naming_on so_far)))
 
-  pub counting_same : (e : EntryKey × Place) → IsCounting pairs old (e ∷ left) log count now → e.1.log ≡ log
-      → IsCounting pairs old left log (count + 1) now
-  counting_same e so_far same = record {
-    naming = subst (IsNaming pairs old left) (ap (after_name (after_names now log count)) same ∙ names_more now log count) (naming_on so_far.naming);
-    few = omega (arith, so_far.few);
-  }
+  module _ {before left : List (EntryKey × Place)} (count : ℕ) (passes : PassesLog before log count left) (so_far : IsNaming pairs old before now) where
+    pub naming_passed : IsNaming pairs old left (after_names now log count)
+    naming_passed =
+        let all = subst (λ (l : List (EntryKey × Place)). IsNaming pairs old l now) passes.split so_far in
+        let many : 0 + length passes.passed ≡ count = omega (arith, passes.many) in
+        subst (λ n. IsNaming pairs old left (after_names now log n)) many
+        (naming_more 0 passes.passed left passes.same (subst (IsNaming pairs old (passes.passed ++ left)) (sym (names_none now log)) all))
 
-  pub counting_other : (e : EntryKey × Place) → IsCounting pairs old (e ∷ left) log count now
-      → IsCounting pairs old left e.1.log 1 (after_names now log count)
-  counting_other e so_far =
-      let book = after_names now log count in
-      record {
-        naming = subst (IsNaming pairs old left) (ap (λ b. after_name b e.1.log) (sym (names_none book e.1.log)) ∙ names_more book e.1.log 0)
-            (naming_on so_far.naming);
-        few = omega (arith, so_far.few);
-      }
+    pub naming_many : length pairs < 2 ^ 64 → IfSome (named_in now log) (λ named. named + count < 2 ^ 64)
+    naming_many few =
+        let split = ap length passes.split ∙ length-append passes.passed left in
+        many_fit so_far.passed count (named_in now log) (omega (arith, few, so_far.counted, split, passes.many)) (so_far.within log)

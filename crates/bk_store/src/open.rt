@@ -59,12 +59,7 @@ impl<D: LogDisk> Fields<D> {
         let mut tally = Tally::new(alloc, dead);
         let mut logs = LogTable::new(alloc);
         let next = find_all(&mut disk, alloc, &ids, &mut tally, &mut logs, &mut keeper)?;
-        tally.name_all();
-        let Tally {
-            index,
-            accounts,
-            dead,
-        } = tally;
+        let (index, accounts, dead) = tally.name_all()?;
         Ok(Fields {
             disk,
             alloc,

@@ -1,23 +1,23 @@
 //! The tally of the logs read so far: the index and the accounts.
 
-ghost use Rattle.std.specs.Prelude.{◌≡◌, ◌+◌, ◌<◌, ◌≤◌, ◌^◌, IfSome, OnOk, IsOkUnless};
+ghost use Rattle.std.specs.Prelude.{◌≡◌, ◌+◌, ◌<◌, ◌≤◌, ◌^◌, IfSome, IfOk, OnOk, IsOkUnless};
 ghost use Rattle.std.specs.FinMap as map;
 ghost use Rattle.bk_accounts.specs.Book.{HasAccount, total_in};
 ghost use Rattle.bk_log.specs.FoundRuns.{bytes_of_run, founds_of};
 ghost use Rattle.bk_store.specs.Found.{with_entries, with_entry, with_names, named_by, AreUnnamed};
 
 use crate::OpenFault;
-use crate::indexing::{index_found, index_run};
+use crate::indexing::{fill_found, index_run};
 use crate::ledger_set::LedgerSet;
 use bk_accounts::Accounts;
-use bk_index::Index;
+use bk_index::{IndexBuilder, Index};
 use bk_log::{Found, FoundRun};
-use std::alloc::Global;
+use std::alloc::{AllocError, Global};
 
 /// The index of the entries of live ledgers, the accounts of all entries, and the deleted ledgers.
 #[derive(Drop)]
 pub(super) struct Tally {
-    pub index: Index,
+    pub index: IndexBuilder,
     pub accounts: Accounts,
     pub dead: LedgerSet,
 }
@@ -28,7 +28,7 @@ impl Tally {
         ensures { result ≡ record { index = map.empty; accounts = map.empty; dead = dead } }
     {
         Tally {
-            index: Index::new(alloc),
+            index: IndexBuilder::new(alloc),
             accounts: Accounts::new(alloc),
             dead,
         }
@@ -45,7 +45,7 @@ impl Tally {
         ensures ok { OnOk result (self.new ≡ with_entry log self.old found.now) }
         ensures only { IsOkUnless result OpenFault.Memory }
     {
-        if !index_found(&mut self.index, &self.dead, log, found)? {
+        if !fill_found(&mut self.index, &self.dead, log, found)? {
             self.accounts.count_dead(log, found.size);
             return Ok(());
         }
@@ -85,33 +85,31 @@ impl Tally {
         Ok(())
     }
 
-    /// Counts the index entries of each log. Does not allocate.
-    pub fn name_all(&mut self)
-        requires { AreUnnamed self.old.accounts }
-        ensures { self.new ≡ with_names self.old }
+    /// Counts each entry of the index in the account of its log. Returns the index, the accounts
+    /// and the deleted ledgers. Fails if memory is refused.
+    pub fn name_all(self) -> Result<(Index, Accounts, LedgerSet), AllocError>
+        requires { AreUnnamed self.accounts }
+        ensures { IfOk result (λ parts. record { index = parts.0; accounts = parts.1; dead = parts.2 } ≡ with_names self) }
     {
-        name_each(&self.index, &mut self.accounts);
+        let Tally {
+            index: builder,
+            mut accounts,
+            dead,
+        } = self;
+        let index = builder.finish()?;
+        name_each(&index, &mut accounts);
+        Ok((index, accounts, dead))
     }
 }
 
-/// Counts each entry of an index in the account of its log.
+/// Counts each entry of an index in the account of its log. Does not allocate.
 pub(crate) fn name_each(index: &Index, accounts: &mut Accounts)
     requires { AreUnnamed accounts.old }
     ensures { accounts.new ≡ named_by (map.entries index.now) accounts.old }
 {
     let _keys = index.len();
-    // Pairs that are adjacent are mostly of one log.
-    let mut log = 0;
-    let mut count = 0u64;
-    for (_, place) in index.walk() {
-        let of = place.log();
-        if of == log {
-            count += 1;
-        } else {
-            accounts.name_many(log, count);
-            log = of;
-            count = 1;
-        }
+    let mut walk = index.walk();
+    while let Some((log, count)) = walk.pass_log() {
+        accounts.name_many(log, count);
     }
-    accounts.name_many(log, count);
 }

@@ -51,8 +51,8 @@ returns-clause-store_invariant g c =
     c.find_all.new.logs was c.find_all.new.keeper (c.in_ok-next.ensures.honest ∙ c.in_ok-ids.ensures.honest)
     (λ is. c.in_ok-next.ensures.files (c.in_ok-ids.ensures.honest ∙ is) ∙ (c.in_ok-ids.ensures.transition is).1)
     (λ is. c.deref.ensures.value ∙ (c.in_ok-ids.ensures.transition is).0)
-    c.in_ok-caches.caches c.new-3.result.places c.name_all.new.self c.opened.result.known c.new-4.result.items
-    (c.in_ok-caches.ensures.value ∙ ap (λ l. new_caches l c.args.settings.recent) c.from-2.ensures) c.new-3.ensures c.name_all.ensures c.opened.ensures c.new-4.ensures.items
+    c.in_ok-caches.caches c.new-3.result.places _ c.opened.result.known c.new-4.result.items
+    (c.in_ok-caches.ensures.value ∙ ap (λ l. new_caches l c.args.settings.recent) c.from-2.ensures) c.new-3.ensures c.in_ok-index.ensures c.opened.ensures c.new-4.ensures.items
     (c.is_allowed.ensures.0 allowed)
     (seated_by c.args.settings c.in_ok-keeper.keeper c.find_all.new.keeper c.find_all.new.logs c.in_ok-keeper.ensures.free
     (c.in_ok-keeper.ensures.most ∙ c.from.ensures) c.in_ok-next.ensures.keeper c.in_ok-next.ensures.seated)
@@ -72,6 +72,6 @@ returns-clause-opened g c =
     c.find_all.new.logs was c.find_all.new.keeper (c.in_ok-next.ensures.honest ∙ c.in_ok-ids.ensures.honest)
     (λ is. c.in_ok-next.ensures.files (c.in_ok-ids.ensures.honest ∙ is) ∙ (c.in_ok-ids.ensures.transition is).1)
     (λ is. c.deref.ensures.value ∙ (c.in_ok-ids.ensures.transition is).0)
-    c.in_ok-caches.caches c.new-3.result.places c.name_all.new.self c.opened.result.known c.new-4.result.items
-    (c.in_ok-caches.ensures.value ∙ ap (λ l. new_caches l c.args.settings.recent) c.from-2.ensures) c.new-3.ensures c.name_all.ensures c.opened.ensures c.new-4.ensures.items
+    c.in_ok-caches.caches c.new-3.result.places _ c.opened.result.known c.new-4.result.items
+    (c.in_ok-caches.ensures.value ∙ ap (λ l. new_caches l c.args.settings.recent) c.from-2.ensures) c.new-3.ensures c.in_ok-index.ensures c.opened.ensures c.new-4.ensures.items
     c.args.dead.now c.in_ok-dead.ensures

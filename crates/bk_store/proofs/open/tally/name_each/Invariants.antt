@@ -1,8 +1,11 @@
+use Rattle.std.proofs.Common.{length}
 use Rattle.std.specs.FinMap as map
-use Rattle.bk_store.proofs.OpenedSums.{IsCounting}
+use Rattle.bk_store.proofs.OpenedSums.{IsNaming}
 use Rattle.bk_store.proofs.open.tally.name_each.Given as goal
 
-abbrev pub invariant-loop-place : goal.invariant-loop-place
-invariant-loop-place l =
-    (goal.iterator-loop-place).can_next l.place-iterator × (goal.iterator-loop-place).is_finite l.place-iterator
-    × IsCounting (map.entries l.index) l.initial.accounts l.place-iterator l.log l.count l.accounts
+-- the entries that are left name their logs as all of them do
+abbrev pub invariant-loop-log : goal.invariant-loop-log
+invariant-loop-log l = IsNaming (map.entries l.index) l.initial.accounts l.walk l.accounts
+
+abbrev pub decreases-loop-log : goal.decreases-loop-log
+decreases-loop-log l = length l.walk

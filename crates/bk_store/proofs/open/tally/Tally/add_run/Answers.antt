@@ -1,9 +1,8 @@
-use Rattle.std.proofs.Common.{◌≡◌, ℕ, ◌*◌, ◌∙◌, false, true, is_err, sym, ap, subst}
+use Rattle.std.proofs.Common.{◌≡◌, ℕ, ◌*◌, ◌∙◌, false, true, is_err, sym, ap}
 use Rattle.std.specs.FinSet as set
 use Rattle.bk_accounts.specs.Book.{Book, after_ready, after_count}
 use Rattle.bk_store.proofs.OpenedRuns.{run_live, run_dead}
 use Rattle.bk_store.proofs.OpenedSums.{when_ok, still_fits}
-use Rattle.bk_store.specs.declared.open.tally.Tally.{Tally}
 use Rattle.bk_store.proofs.open.tally.Tally.add_run.Goals as goal
 
 pub returns-then-contains-clause-ok : goal.returns-then-contains-clause-ok
