@@ -6,7 +6,7 @@ ghost use Rattle.bk_hint_disk.specs.Usable.{AreProbesOf, IsHead, IsMet, IsNoted}
 
 use crate::WhyNot;
 use bk_disk::{DiskFault, LogView};
-use bk_hint::{Contents, Listed, EntryCursor};
+use bk_hint::{Contents, EntryCursor, Listed};
 use bk_record::{LENGTH_FIELD, RECORD_HEAD};
 use byteorder::{BigEndian, ByteOrder};
 use std::alloc::{AllocError, Global};

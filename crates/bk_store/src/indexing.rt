@@ -9,7 +9,7 @@ ghost use Rattle.bk_store.specs.Indexing.{with_key};
 use crate::Store;
 use crate::ledger_set::LedgerSet;
 use bk_disk::LogDisk;
-use bk_index::{IndexBuilder, Index};
+use bk_index::{Index, IndexBuilder};
 use bk_log::{Found, FoundRun};
 use bk_record::Location;
 use std::alloc::AllocError;
@@ -64,7 +64,11 @@ pub(crate) fn fill_found(
 
 /// Points the keys of a run of entries found in a log to their places, in an index that is being
 /// filled; a place that a key had is replaced. Fails if memory is refused.
-pub(crate) fn index_run(index: &mut IndexBuilder, log: u32, run: &FoundRun) -> Result<(), AllocError>
+pub(crate) fn index_run(
+    index: &mut IndexBuilder,
+    log: u32,
+    run: &FoundRun,
+) -> Result<(), AllocError>
     requires id { log < 2 ^ 31 }
     requires some { 0 < run.now.count }
     requires ids { run.now.first.key.entry + run.now.count ≤ 2 ^ 63 }

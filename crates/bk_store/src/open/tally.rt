@@ -10,7 +10,7 @@ use crate::OpenFault;
 use crate::indexing::{fill_found, index_run};
 use crate::ledger_set::LedgerSet;
 use bk_accounts::Accounts;
-use bk_index::{IndexBuilder, Index};
+use bk_index::{Index, IndexBuilder};
 use bk_log::{Found, FoundRun};
 use std::alloc::{AllocError, Global};
 
