@@ -9,10 +9,16 @@ use crate::{DiskFault, FaultWatch};
 use std::alloc::{AllocError, Global};
 use std::fs::{self, File, OpenOptions};
 use std::io::{self, ErrorKind, Write};
-use std::os::unix::fs::{FileExt, MetadataExt};
+use std::os::unix::fs::{FileExt, MetadataExt, OpenOptionsExt};
+
+/// What the name of a file begins with that holds secrets, the keys of ledgers, and that of its copies.
+const SECRET: &str = "ledgers.manifest";
+/// Rights of such a file: its owner alone may read and write it.
+const OWNER_ALONE: u32 = 0o600;
 
 /// A plain file of a directory that is written, beside its logs. It is read whole, written at its
-/// end after it was cut there, or replaced as a whole. It may be missing.
+/// end after it was cut there, or replaced as a whole. It may be missing. One that holds keys of
+/// ledgers is made for its owner alone (0600), any other with the rights that the process gives.
 ///
 /// No link is followed, and a file with a second name is refused. A call that fails with `Disk` is
 /// noted for `last_fault` of the disk. After a failed sync of its bytes each `write_at` and `sync`
@@ -25,6 +31,7 @@ pub struct FolderFile {
     path: String,
     /// The path of the file that is to replace it.
     next: String,
+    is_secret: bool,
     watch: FaultWatch,
     /// Open to write, from the first call that writes.
     file: Option<File>,
@@ -48,6 +55,7 @@ impl FolderFile {
             folder: String::from_str(alloc, folder)?,
             path: format!(in alloc; "{folder}/{name}")?,
             next: format!(in alloc; "{folder}/{name}.new")?,
+            is_secret: name.starts_with(SECRET),
             watch,
             file: None,
             lost: None,
@@ -139,11 +147,12 @@ impl FolderFile {
             Err(error) if error.kind() == ErrorKind::NotFound => {}
             Err(error) => return Err(self.refuse_next(Operation::Remove, error)),
         }
-        let made = OpenOptions::new()
-            .write(true)
-            .create_new(true)
-            .open(&self.rt, self.next.as_str());
-        let mut file = match made {
+        let mut how = OpenOptions::new();
+        how.write(true).create_new(true);
+        if self.is_secret {
+            how.mode(OWNER_ALONE);
+        }
+        let mut file = match how.open(&self.rt, self.next.as_str()) {
             Ok(file) => file,
             Err(error) => return Err(self.refuse_next(Operation::Create, error)),
         };

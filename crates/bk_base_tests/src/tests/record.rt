@@ -3,10 +3,7 @@
 ghost use Rattle.std.specs.Prelude.{◌≡◌, ◌≤◌, length, IfOk};
 ghost use Rattle.bk_record.specs.Record.{IsPayload};
 
-use bk_record::{
-    Key, Location, Piece, RecordFault, check_add, key_of, last_record_wins, one_piece,
-    one_spelling, read_record, write_record,
-};
+use bk_record::{Key, Location, Piece, RecordFault, check_add, key_of, read_record, write_record};
 use std::alloc::{AllocError, Global};
 use std::cmp::Ordering;
 use std::test::Fail;
@@ -197,11 +194,4 @@ fn faults_as_texts(rt: HostRuntime) -> Result<(), Fail> {
         assert_eq!(rt; shown.as_str(), *text);
     }
     Ok(())
-}
-
-#[test]
-fn laws_do_nothing() {
-    one_spelling();
-    one_piece();
-    last_record_wins();
 }
