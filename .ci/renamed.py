@@ -102,7 +102,7 @@ def carry_of(record, top, base, moved, may, kit):
             print(f"{crate}/{record.name}: not carried, since more than names differ in {' '.join(found[:6])}")
         else:
             carried += 1
-            record.note(top, crate, digest)
+            record.carry(top, crate, record.file(base, earlier), digest)
     return carried, lost
 
 

@@ -229,12 +229,23 @@ class Record:
         return digest.hexdigest()
 
     def note(self, top, crate, digest):
-        (top / "crates" / crate / self.name).write_text(f"{self.text}digest: {digest}\n")
+        self.file(top, crate).write_text(f"{self.text}digest: {digest}\n")
+
+    def carry(self, top, crate, before, digest):
+        """Writes the record that the directory `before` has of a crate, with another digest."""
+        self.file(top, crate).write_text(DIGEST.sub(f"digest: {digest}", before.read_text()))
+
+    def file(self, top, crate):
+        return top / "crates" / crate / self.name
 
     def fits(self, top, crate, digest):
-        file = top / "crates" / crate / self.name
+        file = self.file(top, crate)
         found = DIGEST.search(file.read_text()) if file.is_file() else None
         return found is not None and found[1] == digest
+
+    def is_earlier(self, top, crate):
+        """Returns whether a record was written by an earlier rule, which showed less."""
+        return not self.file(top, crate).read_text().startswith(self.text)
 
 
 TRIED = Record(
@@ -242,7 +253,7 @@ TRIED = Record(
     edits_of,
     texts_of_edits,
     logic_of,
-    "Each edit of this directory was tried and refused",
+    "Each edit of this directory was tried and refused by a goal of its own",
     "tries the edits",
 )
 PROVED = Record(
