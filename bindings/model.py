@@ -2,9 +2,10 @@
 """A model of `bk_serve` (protocol.md), for the tests of the clients: usage: model.py DIR
 
 It keeps everything in memory and appends what is durable to DIR/model.log, so that a test can kill it
-and open the directory again. Replies that may overtake do: those of reads come late and backwards. It
-shares no code with the clients. It is no bookie: it has no entry logs, one thread, no checks of its
-file, and no limits but those of frames.
+and open the directory again. Each entry has a log, and a compaction copies and removes as protocol.md says.
+Replies that may overtake do: those of reads come late and backwards. It shares no code with the clients. It is
+no bookie: its logs are numbers of one file, and it has one thread, no checks of its file, and no limits but
+those of frames.
 """
 
 import fcntl
@@ -17,6 +18,8 @@ import sys
 MAGIC, VERSION, LARGEST, IN_FLIGHT, PAGE = b"BKSERVE\n", 1, 5_000_064, 256, 1000
 LAST_ID = 2**63 - 1
 DATA, ATTRIBUTE, CACHE = 4_999_984, 256, 64 << 20
+# Thresholds of the compaction in thousandths, and the bytes of records at which a log is sealed.
+MINOR, MAJOR, LOG = 200, 800, 1 << 30
 
 # call: name, number of numbers, least and most bytes after them
 CALLS = {
@@ -38,13 +41,20 @@ class Fault(Exception):
     """A fault of a frame: the status that ends the session, its numbers, and the id of the frame."""
 
 
+def record_size(body):
+    """Returns the bytes that an entry takes in a log: a length of four bytes, and the entry."""
+    return 4 + len(body)
+
+
 class Model:
     """The entries and ledgers of one directory."""
 
     def __init__(self, directory):
         os.makedirs(directory, exist_ok=True)
         self.kept, self.fenced, self.dead, self.attributes = {}, set(), set(), {}
-        self.trail, self.unpublished, self.log, self.front = [], {}, 0, 0
+        self.trail, self.unpublished, self.front = [], {}, 0
+        # The bytes of each log's records, the log of each published entry, the log that is written, and the next one.
+        self.logs, self.place, self.open, self.next = {}, {}, None, 0
         self.file = open(os.path.join(directory, "model.log"), "a+b")
         fcntl.flock(self.file, fcntl.LOCK_EX | fcntl.LOCK_NB)
         self.file.seek(0)
@@ -62,21 +72,33 @@ class Model:
         self.file.truncate(at)
 
     def apply(self, kind, body):
-        ledger = int.from_bytes(body[:8], "big")
-        if kind == b"e" and ledger not in self.dead:
-            self.kept.setdefault(ledger, {})[int.from_bytes(body[8:16], "big")] = body
+        number = int.from_bytes(body[:8], "big")
+        if kind == b"e":
+            self.put(number, body[8:])
+        elif kind == b"r":
+            del self.logs[number]
         elif kind == b"f":
-            self.fenced.add(ledger)
+            self.fenced.add(number)
         elif kind == b"d":
-            self.forget(ledger)
+            self.forget(number)
         elif kind == b"a":
-            self.attributes[ledger, body[8:9]] = body[9:]
+            self.attributes[number, body[8:9]] = body[9:]
+
+    def put(self, log, body):
+        """Puts an entry that is durable into its log."""
+        ledger, entry = struct.unpack_from(">QQ", body)
+        self.next = max(self.next, log + 1)
+        self.logs[log] = self.logs.get(log, 0) + record_size(body)
+        if ledger not in self.dead:
+            self.kept.setdefault(ledger, {})[entry] = body
+            self.place[ledger, entry] = log
 
     def forget(self, ledger):
         self.dead.add(ledger)
         self.fenced.discard(ledger)
-        self.attributes = {key: value for key, value in self.attributes.items() if key[0] != ledger}
-        self.unpublished = {key: value for key, value in self.unpublished.items() if key[0] != ledger}
+        self.attributes, self.unpublished, self.place = (
+            {key: value for key, value in of.items() if key[0] != ledger} for of in (self.attributes, self.unpublished, self.place)
+        )
         return len(self.kept.pop(ledger, {}))
 
     def write(self, *records):
@@ -85,9 +107,53 @@ class Model:
         self.file.flush()
         os.fsync(self.file.fileno())
 
-    def durable(self, kind, body):
-        self.write((kind, body))
-        self.apply(kind, body)
+    def durable(self, *records):
+        self.write(*records)
+        for kind, body in records:
+            self.apply(kind, body)
+
+    # ---- logs
+
+    def log_for(self, size):
+        """Returns the log for a record, a new one if none is written or the record would make it too long."""
+        if self.open is None or self.logs[self.open] + size > LOG:
+            self.open, self.next = self.next, self.next + 1
+            self.logs[self.open] = 0
+        return self.open
+
+    def live(self):
+        """Returns the live bytes of each sealed log."""
+        found = {log: 0 for log in self.logs if log != self.open}
+        for (ledger, entry), log in self.place.items():
+            if log in found:
+                found[log] += record_size(self.kept[ledger][entry])
+        return found
+
+    def remove_unused(self):
+        """Removes the sealed logs without a live byte. Returns how many."""
+        unused = [log for log, live in self.live().items() if live == 0]
+        self.durable(*((b"r", log.to_bytes(8, "big")) for log in unused))
+        return len(unused)
+
+    def least_live(self, threshold):
+        """Returns the sealed log with the least live share, of those below a threshold, or None."""
+        below = [(live / self.logs[log], log) for log, live in self.live().items() if live * 1000 < threshold * self.logs[log]]
+        return min(below)[1] if below else None
+
+    def copy(self, log):
+        """Copies the live entries of a log to a new one, which is sealed. Returns how many."""
+        target, self.next = self.next, self.next + 1
+        moved = [self.kept[ledger][entry] for (ledger, entry), at in self.place.items() if at == log]
+        self.durable(*((b"e", target.to_bytes(8, "big") + body) for body in moved))
+        return len(moved)
+
+    def compact_below(self, threshold):
+        """Compacts every log below a threshold. Returns how many logs were removed and entries copied."""
+        removed, copied = self.remove_unused(), 0
+        while (log := self.least_live(threshold)) is not None:
+            copied += self.copy(log)
+            removed += self.remove_unused()
+        return removed, copied
 
     # ---- calls: each returns a status, numbers, and bytes
 
@@ -164,7 +230,7 @@ class Model:
             return 67, (), b""
         if ledger in self.fenced:
             return 42, (), b""
-        self.durable(b"f", ledger.to_bytes(8, "big"))
+        self.durable((b"f", ledger.to_bytes(8, "big")))
         self.trail.append((ledger, "fence"))
         return 41, (), b""
 
@@ -181,7 +247,7 @@ class Model:
     def set_attribute(self, kind, ledger, value):
         if ledger in self.dead:
             return 67, (), b""
-        self.durable(b"a", ledger.to_bytes(8, "big") + kind + value)
+        self.durable((b"a", ledger.to_bytes(8, "big") + kind + value))
         return 44, (), b""
 
     def attribute(self, kind, ledger):
@@ -203,34 +269,36 @@ class Model:
         return self.attribute(b"l", ledger)
 
     def flush(self):
-        published = len(self.unpublished)
-        self.write(*((b"e", body) for body in self.unpublished.values()))
+        bodies = list(self.unpublished.values())
+        records = [(b"e", self.log_for(record_size(body)).to_bytes(8, "big") + body) for body in bodies]
+        self.durable(*records)
         self.unpublished, self.front = {}, len(self.trail)
-        return 47, (published,), b""
+        return 47, (len(bodies),), b""
 
     def checkpoint(self):
         self.flush()
         return 48, (len(self.trail),), b""
 
     def compact(self, minor, major):
-        return (86, (), b"") if max(minor, major) > 1000 else (49, (0, 0), b"")
+        if minor not in (0, MINOR) or major not in (0, MAJOR):
+            return 86, (), b""
+        done = [self.compact_below(threshold) for threshold in (minor, major) if threshold]
+        return 49, (sum(removed for removed, _ in done), sum(copied for _, copied in done)), b""
 
     def stats(self):
-        live = sum(len(body) for held in self.kept.values() for body in held.values())
+        live = sum(record_size(self.kept[ledger][entry]) for ledger, entry in self.place)
         cached = sum(map(len, self.unpublished.values()))
-        indexed = sum(map(len, self.kept.values())) - len(self.unpublished)
-        size = os.fstat(self.file.fileno()).st_size
-        return 50, (1, size, live - cached, cached, indexed, self.front, 1, len(self.trail), 0, 0), b""
+        numbers = len(self.logs), sum(self.logs.values()), live, cached, len(self.place), self.front
+        return 50, (*numbers, self.next, len(self.trail), 0, 0), b""
 
     def seal(self):
-        published = self.flush()[1][0]
-        self.log += 1 if published else 0
-        return (51, (self.log - 1,), b"") if published else (52, (), b"")
+        self.flush()
+        log, self.open = self.open, None
+        return (52, (), b"") if log is None else (51, (log,), b"")
 
     def close(self):
         self.flush()
         return 53, (len(self.trail),), b""
-
 
 
 class Source:
@@ -351,6 +419,11 @@ def serve(directory):
             model.flush()
         sink.reply(id, status, numbers, b"")
         return 1
+    except BrokenPipeError:
+        # The client has ended. What was accepted is flushed, as at the end of the input.
+        if model is not None:
+            model.flush()
+        os._exit(1)
 
 
 def next_frame(source, sink):

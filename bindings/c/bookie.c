@@ -1,5 +1,5 @@
 /* Client of `bk_serve`: see bookie.h. One thread reads replies and puts them into the table of requests. */
-#define _GNU_SOURCE /* F_SETPIPE_SZ */
+#define _GNU_SOURCE /* F_SETPIPE_SZ, POSIX_SPAWN_SETSID */
 #include "bookie.h"
 #include <errno.h>
 #include <fcntl.h>
@@ -10,6 +10,7 @@
 #include <stdlib.h>
 #include <string.h>
 #include <sys/wait.h>
+#include <time.h>
 #include <unistd.h>
 
 #define LARGEST 5000064u
@@ -19,6 +20,9 @@
 #define PIPE (1 << 20)    /* wanted size of the pipes; the system's own is a sixteenth */
 #define MAGIC 0x424b53455256450aull
 #define VERSION 1u
+#define WAIT 10000u       /* milliseconds for which bookie_open tries to open a directory that is in use */
+#define PAUSE 50u         /* before the second try; each pause is twice the one before, up to LONGEST */
+#define LONGEST 1000u
 
 extern char **environ;
 
@@ -138,6 +142,12 @@ typedef struct {
     uint8_t bytes[65536];
 } input;
 
+/* Counts the entries that were accepted and that no answered flush covers, by the ids of requests. */
+typedef struct {
+    uint64_t all, after;               /* entries that were accepted: all, and those sent after the flush that was sent last */
+    uint64_t accepted, covered, flush; /* the greatest ids of an accepted add, of an answered flush, and of a flush that was sent */
+} unflushed;
+
 struct bookie {
     pid_t child;
     int out;
@@ -150,6 +160,7 @@ struct bookie {
     uint64_t last, limits[4];
     uint64_t written, answered; /* requests */
     size_t unanswered;
+    unflushed unflushed;
     int is_over, is_ended, status;
     uint64_t held_count; /* requests that are held back, see bookie_send */
     size_t held_bytes;
@@ -220,6 +231,38 @@ static int read_reply(input *in, uint64_t *id, bookie_reply *reply) {
     return 0;
 }
 
+/* ---- what is not flushed; the lock is held */
+
+static void count_sent(unflushed *u, uint64_t id, int call) {
+    if (call != BOOKIE_FLUSH && call != BOOKIE_CHECKPOINT && call != BOOKIE_SEAL && call != BOOKIE_CLOSE) return;
+    u->flush = id;
+    u->after = 0;
+}
+
+static uint64_t greater(uint64_t a, uint64_t b) {
+    return a > b ? a : b;
+}
+
+static void count_answered(unflushed *u, uint64_t id, int status) {
+    switch (status) {
+    case BOOKIE_ACCEPTED:
+        u->accepted = greater(u->accepted, id);
+        u->all += id > u->covered;
+        u->after += id > u->flush;
+        break;
+    case BOOKIE_FLUSHED:
+    case BOOKIE_DURABLE:
+    case BOOKIE_SEALED:
+    case BOOKIE_NOTHING_OPEN:
+    case BOOKIE_CLOSED:
+        u->covered = greater(u->covered, id);
+        if (id == u->flush) u->all = u->after;
+        break;
+    default:
+        break;
+    }
+}
+
 /* ---- the table of requests; the lock is held */
 
 static request **at(bookie *b, uint64_t id) {
@@ -237,6 +280,7 @@ static size_t deliver(bookie *b, const uint64_t *ids, const bookie_reply *replie
         if (replies[done].status >= 96 || r == NULL || r->is_answered) break;
         r->reply = replies[done];
         r->is_answered = 1;
+        count_answered(&b->unflushed, ids[done], replies[done].status);
     }
     b->unanswered -= done;
     b->answered += done;
@@ -342,6 +386,7 @@ uint64_t bookie_send(bookie *b, int call, const uint64_t *numbers, const void *b
     pthread_mutex_lock(&b->lock);
     uint64_t id = r->id = ++b->last;
     *at(b, id) = r;
+    count_sent(&b->unflushed, id, call);
     pthread_mutex_unlock(&b->lock);
     put(head + 4, id, 8);
     b->held_count += 1;
@@ -400,37 +445,83 @@ const uint64_t *bookie_limits(const bookie *b) {
     return b->limits;
 }
 
+pid_t bookie_pid(const bookie *b) {
+    return b->child;
+}
+
+uint64_t bookie_unflushed(bookie *b) {
+    pthread_mutex_lock(&b->lock);
+    uint64_t count = b->unflushed.accepted > b->unflushed.covered ? b->unflushed.all : 0;
+    pthread_mutex_unlock(&b->lock);
+    return count;
+}
+
 /* ---- start and end */
+
+/* Gives a file a number above those of the standard streams, and closes it in programs that are started. */
+static int lift(int file) {
+    int lifted = fcntl(file, F_DUPFD_CLOEXEC, 3);
+    close(file);
+    return lifted;
+}
+
+/* Makes a pipe whose ends are no standard streams, as they could be in a process that has none. */
+static int make_pipe(int ends[2]) {
+    if (pipe(ends) < 0) return -1;
+    ends[0] = lift(ends[0]);
+    ends[1] = lift(ends[1]);
+    if (ends[0] >= 0 && ends[1] >= 0) return 0;
+    close(ends[0]);
+    close(ends[1]);
+    return -1;
+}
+
+/* Starts the server with these standard streams, apart from the group of this process. */
+static int spawn(bookie *b, char *const command[], int in, int out) {
+    posix_spawn_file_actions_t actions;
+    posix_spawnattr_t attributes;
+    posix_spawn_file_actions_init(&actions);
+    posix_spawn_file_actions_adddup2(&actions, in, 0);
+    posix_spawn_file_actions_adddup2(&actions, out, 1);
+    /* Else a file of the directory would be the server's error stream. */
+    if (fcntl(2, F_GETFD) < 0) posix_spawn_file_actions_addopen(&actions, 2, "/dev/null", O_WRONLY, 0);
+    posix_spawnattr_init(&attributes);
+#ifdef POSIX_SPAWN_SETSID
+    posix_spawnattr_setflags(&attributes, POSIX_SPAWN_SETSID);
+#else
+    posix_spawnattr_setflags(&attributes, POSIX_SPAWN_SETPGROUP);
+    posix_spawnattr_setpgroup(&attributes, 0);
+#endif
+    int failed = posix_spawnp(&b->child, command[0], &actions, &attributes, command, environ);
+    posix_spawnattr_destroy(&attributes);
+    posix_spawn_file_actions_destroy(&actions);
+    return failed ? -1 : 0;
+}
 
 /* Starts the server with two pipes. */
 static int start(bookie *b, char *const command[]) {
     int to[2], from[2];
-    posix_spawn_file_actions_t actions;
-    if (pipe(to) < 0) return -1;
-    if (pipe(from) < 0) {
+    if (make_pipe(to) < 0) return -1;
+    if (make_pipe(from) < 0) {
         close(to[0]);
         close(to[1]);
         return -1;
     }
-    fcntl(to[1], F_SETFD, FD_CLOEXEC);
-    fcntl(from[0], F_SETFD, FD_CLOEXEC);
     fcntl(to[1], F_SETFL, O_NONBLOCK);
 #ifdef F_SETPIPE_SZ
     (void)fcntl(to[1], F_SETPIPE_SZ, PIPE);
     (void)fcntl(from[1], F_SETPIPE_SZ, PIPE);
 #endif
-    posix_spawn_file_actions_init(&actions);
-    posix_spawn_file_actions_adddup2(&actions, to[0], 0);
-    posix_spawn_file_actions_adddup2(&actions, from[1], 1);
-    posix_spawn_file_actions_addclose(&actions, to[0]);
-    posix_spawn_file_actions_addclose(&actions, from[1]);
-    int failed = posix_spawnp(&b->child, command[0], &actions, NULL, command, environ);
-    posix_spawn_file_actions_destroy(&actions);
+    int failed = spawn(b, command, to[0], from[1]);
     close(to[0]);
     close(from[1]);
     b->in.file = from[0];
     b->out = to[1];
-    return failed ? -1 : 0;
+    if (failed) {
+        close(b->in.file);
+        close(b->out);
+    }
+    return failed;
 }
 
 static void let_go(bookie *b) {
@@ -460,16 +551,21 @@ static void end(bookie *b) {
     close(b->in.file);
 }
 
-int bookie_open(char *const command[], bookie **out) {
-    *out = NULL;
-    signal(SIGPIPE, SIG_IGN);
+static int open_once(char *const command[], bookie **out) {
     bookie *b = calloc(1, sizeof *b);
     if (b == NULL) return BOOKIE_INVALID;
     b->limits[2] = 1;
     pthread_mutex_init(&b->lock, NULL);
     pthread_mutex_init(&b->writing, NULL);
     pthread_cond_init(&b->changed, NULL);
-    if (start(b, command) < 0 || pthread_create(&b->reader, NULL, read_replies, b) != 0) {
+    if (start(b, command) < 0) {
+        let_go(b);
+        return BOOKIE_GONE;
+    }
+    if (pthread_create(&b->reader, NULL, read_replies, b) != 0) {
+        close(b->out);
+        while (waitpid(b->child, NULL, 0) < 0 && errno == EINTR) continue;
+        close(b->in.file);
         let_go(b);
         return BOOKIE_GONE;
     }
@@ -488,10 +584,33 @@ int bookie_open(char *const command[], bookie **out) {
     return status;
 }
 
+/* Milliseconds of a clock that only rises. */
+static uint64_t now(void) {
+    struct timespec at;
+    clock_gettime(CLOCK_MONOTONIC, &at);
+    return (uint64_t)at.tv_sec * 1000 + (uint64_t)at.tv_nsec / 1000000;
+}
+
+int bookie_open_within(char *const command[], unsigned milliseconds, bookie **out) {
+    *out = NULL;
+    signal(SIGPIPE, SIG_IGN);
+    uint64_t until = now() + milliseconds;
+    for (uint64_t pause = PAUSE;; pause = pause < LONGEST / 2 ? 2 * pause : LONGEST) {
+        int status = open_once(command, out);
+        if (status != BOOKIE_IN_USE || now() + pause > until) return status;
+        nanosleep(&(struct timespec){(time_t)(pause / 1000), (long)(pause % 1000 * 1000000)}, NULL);
+    }
+}
+
+int bookie_open(char *const command[], bookie **out) {
+    return bookie_open_within(command, WAIT, out);
+}
+
 int bookie_close(bookie *b) {
-    if (!b->is_ended) bookie_ask(b, BOOKIE_CLOSE, NULL, NULL, 0, NULL);
+    int answer = b->is_ended ? BOOKIE_GONE : bookie_ask(b, BOOKIE_CLOSE, NULL, NULL, 0, NULL);
     end(b);
-    int status = b->status;
+    /* Without memory for the request the server meets the end of its input, and its exit status says whether it flushed. */
+    int status = b->status == 0 && answer != BOOKIE_CLOSED && answer != BOOKIE_INVALID ? -1 : b->status;
     let_go(b);
     return status;
 }
@@ -609,12 +728,19 @@ int bookie_checkpoint(bookie *b, uint64_t *front) {
     return ask_number(b, BOOKIE_CHECKPOINT, NULL, BOOKIE_DURABLE, front);
 }
 
-int bookie_compact(bookie *b, uint64_t minor, uint64_t major) {
-    return bookie_ask(b, BOOKIE_COMPACT, (uint64_t[]){minor, major}, NULL, 0, NULL);
+int bookie_compact(bookie *b, uint64_t minor, uint64_t major, bookie_compacted *done) {
+    bookie_reply reply;
+    int status = bookie_ask(b, BOOKIE_COMPACT, (uint64_t[]){minor, major}, NULL, 0, &reply);
+    if (status == BOOKIE_COMPACTED && done != NULL) *done = (bookie_compacted){reply.numbers[0], reply.numbers[1]};
+    return status;
 }
 
-int bookie_stats(bookie *b, bookie_reply *reply) {
-    return bookie_ask(b, BOOKIE_STATS, NULL, NULL, 0, reply);
+int bookie_stats(bookie *b, bookie_figures *figures) {
+    bookie_reply reply;
+    int status = bookie_ask(b, BOOKIE_STATS, NULL, NULL, 0, &reply);
+    const uint64_t *n = reply.numbers;
+    if (status == BOOKIE_FIGURES) *figures = (bookie_figures){n[0], n[1], n[2], n[3], n[4], n[5], n[6], n[7], n[8], n[9]};
+    return status;
 }
 
 int bookie_seal(bookie *b) {

@@ -7,15 +7,18 @@
  *     bookie_reply reply;
  *     if (bookie_wait(b, id, &reply) == BOOKIE_ACCEPTED) ..
  *     bookie_reply_free(&reply);
- *     bookie_close(b);                                                            // in order; frees b
+ *     if (bookie_close(b) != 0) ..                                                // in order; frees b
  *
  * Each request that was sent is waited for once, by one thread, or is left to bookie_close. SIGPIPE must be ignored, as
  * bookie_open sees to. The values of statuses are those of the protocol; BOOKIE_GONE and BOOKIE_INVALID are the client's own.
+ *
+ * BOOKIE_ACCEPTED is worth memory: what is not flushed is lost if the server is killed. README.md, Signals, says what ends it.
  */
 #ifndef BOOKIE_H
 #define BOOKIE_H
 #include <stddef.h>
 #include <stdint.h>
+#include <sys/types.h>
 #ifdef __cplusplus
 extern "C" {
 #endif
@@ -130,9 +133,29 @@ typedef struct {
     uint8_t digest[32];
 } bookie_receipt;
 
+/* The store in numbers; protocol.md has what each counts. */
+typedef struct {
+    uint64_t logs, bytes, live, cached, indexed, durable, next_log, front, leases, failures;
+} bookie_figures;
+
+/* What a compaction did: logs removed, entries copied. */
+typedef struct {
+    uint64_t logs, entries;
+} bookie_compacted;
+
 /* Starts the server, a list of words that ends with NULL, and opens its directory. Returns BOOKIE_WELCOME, or why it
- * failed; *out is NULL then. */
+ * failed; *out is NULL then. While another process has the directory, as a predecessor that still flushes, it is opened again
+ * for ten seconds; then it returns BOOKIE_IN_USE.
+ *
+ * The server gets a session of the system of its own, or a process group where the system's posix_spawn has no sessions: so a
+ * signal to the group of this process, as ^C sends, does not end it before this client closes. This process needs no standard
+ * streams: where it has no error stream, the server's is /dev/null. */
 int bookie_open(char *const command[], bookie **out);
+/* The same with another time, which may be 0. */
+int bookie_open_within(char *const command[], unsigned milliseconds, bookie **out);
+
+/* The process id of the server. */
+pid_t bookie_pid(const bookie *b);
 
 /* The limits of the session: version, largest frame, requests in flight, ids of a page. */
 const uint64_t *bookie_limits(const bookie *b);
@@ -190,17 +213,25 @@ int bookie_explicit_lac(bookie *b, uint64_t ledger, bookie_reply *reply);
 /* BOOKIE_FLUSHED: everything that was accepted before is durable. BOOKIE_DURABLE writes the front of the trail. */
 int bookie_flush(bookie *b);
 int bookie_checkpoint(bookie *b, uint64_t *front);
-/* BOOKIE_COMPACTED. Thresholds in thousandths; 0 omits a kind. */
-int bookie_compact(bookie *b, uint64_t minor, uint64_t major);
-/* BOOKIE_FIGURES, BOOKIE_SEALED or BOOKIE_NOTHING_OPEN. */
-int bookie_stats(bookie *b, bookie_reply *reply);
+/* Compacts the logs whose live share is below the server's thresholds: `minor` and `major` are these in thousandths, 200 and 800
+ * unless the server has others. 0 omits a kind, and any other number is refused by BOOKIE_OUT_OF_RANGE. BOOKIE_COMPACTED writes
+ * what was done, if that is not NULL. */
+int bookie_compact(bookie *b, uint64_t minor, uint64_t major, bookie_compacted *done);
+/* BOOKIE_FIGURES writes the figures. */
+int bookie_stats(bookie *b, bookie_figures *figures);
+/* BOOKIE_SEALED or BOOKIE_NOTHING_OPEN. */
 int bookie_seal(bookie *b);
 
-/* ---- The end. Both end the server, free b, and return the server's exit status as waitpid gives it, or -1. */
+/* ---- The end. */
 
-/* In order: if it returns 0, everything that was accepted is durable. No other call may be under way. */
+/* How many entries were accepted that may be in memory alone: no flush that was sent later is answered. */
+uint64_t bookie_unflushed(bookie *b);
+/* Flushes, ends the server and frees b. Returns 0 only if the server said that everything that was accepted is durable. Else it
+ * returns the server's exit status as waitpid gives it, or -1: the flush failed, or the session had ended before, or ended
+ * meanwhile; bookie_unflushed says before how many entries may be lost. No other call may be under way. */
 int bookie_close(bookie *b);
-/* Kills the server, as a crash does. bookie_wait and bookie_send may be called until bookie_close: they return BOOKIE_GONE. */
+/* Kills the server, as a crash does: what was accepted and not flushed is lost. bookie_wait and bookie_send may be called until
+ * bookie_close: they return BOOKIE_GONE. */
 void bookie_kill(bookie *b);
 
 #ifdef __cplusplus

@@ -1,15 +1,21 @@
-/* Tests the client: usage: test_bookie SERVER DIR. Prints the summary that the tests of all clients print, line for line. */
+/* Tests the client: usage: test_bookie SERVER DIR. Prints the summary that the tests of all clients print, line for line. DIR and
+ * DIR-ends do not exist or are empty. */
 #define _POSIX_C_SOURCE 200809L
 #include "bookie.h"
 #include "sha256.h"
+#include "test_ends.h"
 #include <pthread.h>
 #include <stdio.h>
 #include <stdlib.h>
 #include <string.h>
 #include <sys/wait.h>
 
-#define COUNT 5000
+#define COUNT 2000 /* entries of each of two ledgers */
+#define LARGE 5    /* large entries that are added, and as many again while they are read */
 #define PAGE 1000
+#define LOGS 6
+/* Of ten entries of a log so many are of a ledger that is not deleted. */
+static const uint64_t LIVE[LOGS] = {0, 1, 1, 5, 6, 9};
 
 typedef struct {
     bookie *b;
@@ -130,29 +136,15 @@ static void add_all(bookie *b, bookie_receipt *one) {
 
 /* ---- reads */
 
-/* Whether the server has every call; else it has none that lists, no attributes and no stats. */
-static int offers_all(bookie *b) {
-    uint64_t found[PAGE];
-    size_t n;
-    return bookie_ledgers(b, 0, found, PAGE, &n) != BOOKIE_NOT_OFFERED;
-}
-
-/* A page of the entry ids of a ledger: without a call that lists, of those before the first that is not held. */
+/* A page of the entry ids of a ledger. */
 static size_t page_of(bookie *b, uint64_t ledger, uint64_t from, uint64_t *found) {
     size_t n = 0;
-    if (offers_all(b)) {
-        must("entries", bookie_entries(b, ledger, from, found, PAGE, &n), BOOKIE_PAGE);
-        return n;
-    }
-    while (n < PAGE && bookie_holds(b, ledger, from + n) == BOOKIE_YES) {
-        found[n] = from + n;
-        n += 1;
-    }
+    must("entries", bookie_entries(b, ledger, from, found, PAGE, &n), BOOKIE_PAGE);
     return n;
 }
 
 static void opened(bookie *b) {
-    printf("opened %llu%s\n", (unsigned long long)bookie_limits(b)[0], offers_all(b) ? "" : " part");
+    printf("opened %llu\n", (unsigned long long)bookie_limits(b)[0]);
 }
 
 /* Reads all entries of the ledgers in order, each page ahead, and prints how many there are and their SHA-256. */
@@ -199,7 +191,7 @@ static void lists(bookie *b) {
     printf("last %llu %llu %s\n", (unsigned long long)last[0], (unsigned long long)last[1], none ? "none" : "some");
     print_ledgers(b);
     bookie_read_last(b, 1, &reply);
-    printf("read last %s\n", yes(has(&reply, 1, 4999)));
+    printf("read last %s\n", yes(has(&reply, 1, COUNT - 1)));
     bookie_reply_free(&reply);
 }
 
@@ -210,8 +202,8 @@ static void entries_and_reads(bookie *b) {
     add_all(b, &receipt);
     must("flush", bookie_flush(b), BOOKIE_FLUSHED);
     read_all(b, (uint64_t[]){1, 2}, 2);
-    if (offers_all(b)) lists(b);
-    printf("holds %s %s %s\n", bookie_status_text(bookie_holds(b, 1, 4999)), bookie_status_text(bookie_holds(b, 1, 5000)), bookie_status_text(bookie_holds(b, 9, 0)));
+    lists(b);
+    printf("holds %s %s %s\n", bookie_status_text(bookie_holds(b, 1, COUNT - 1)), bookie_status_text(bookie_holds(b, 1, COUNT)), bookie_status_text(bookie_holds(b, 9, 0)));
     bookie_read_back(b, &receipt, &reply);
     printf("read back %s\n", yes(has(&reply, 2, 77)));
     bookie_reply_free(&reply);
@@ -226,8 +218,8 @@ static void entries_and_reads(bookie *b) {
 static void fences(bookie *b) {
     const char *first = yes(bookie_fence(b, 1) == BOOKIE_FENCED_NOW), *second = yes(bookie_fence(b, 1) == BOOKIE_FENCED_NOW);
     printf("fenced %s %s\n", first, second);
-    printf("add %s ", refusal(bookie_add(b, 1, 5000, "x", 1, NULL)));
-    printf("recovery %s\n", refusal(bookie_add_recovery(b, 1, 5000, "x", 1, NULL)));
+    printf("add %s ", refusal(bookie_add(b, 1, COUNT, "x", 1, NULL)));
+    printf("recovery %s\n", refusal(bookie_add_recovery(b, 1, COUNT, "x", 1, NULL)));
     printf("negative %s\n", refusal(bookie_add(b, 1ull << 63, 0, "x", 1, NULL)));
 }
 
@@ -249,12 +241,66 @@ static void attributes(bookie *b) {
 }
 
 static void figures(bookie *b) {
-    bookie_reply reply;
-    must("stats", bookie_stats(b, &reply), BOOKIE_FIGURES);
-    unsigned long long found[10];
-    for (int i = 0; i < 10; i++) found[i] = reply.numbers[i];
-    const char *within = yes(found[2] <= found[1] && found[5] <= found[7]);
-    printf("figures %llu %llu %llu %s %llu %llu\n", found[7], found[3], found[4], within, found[8], found[9]);
+    bookie_figures f;
+    must("stats", bookie_stats(b, &f), BOOKIE_FIGURES);
+    unsigned long long found[] = {f.front, f.cached, f.indexed, f.leases, f.failures};
+    const char *within = yes(f.live <= f.bytes && f.durable <= f.front);
+    printf("figures %llu %llu %llu %s %llu %llu\n", found[0], found[1], found[2], within, found[3], found[4]);
+}
+
+/* Seals logs of ten entries of 20 bytes, some of ledger 5 and the others of ledger 6. */
+static void fill_logs(bookie *b) {
+    uint8_t bytes[128];
+    for (uint64_t log = 0; log < LOGS; log++) {
+        size_t length = content(5, 100 * log, bytes);
+        for (uint64_t e = 0; e < 10; e++)
+            must("add", bookie_add(b, e < LIVE[log] ? 5 : 6, 100 * log + e, bytes, length, NULL), BOOKIE_ACCEPTED);
+        must("seal", bookie_seal(b), BOOKIE_SEALED);
+    }
+}
+
+static void print_compacted(bookie *b, const char *what, uint64_t minor, uint64_t major) {
+    bookie_compacted done;
+    must("compact", bookie_compact(b, minor, major, &done), BOOKIE_COMPACTED);
+    printf("%s %llu %llu", what, (unsigned long long)done.logs, (unsigned long long)done.entries);
+}
+
+/* How many entries of ledger 5 are as they were added. */
+static int count_copied(bookie *b) {
+    uint64_t found[PAGE];
+    uint8_t bytes[128];
+    int right = 0;
+    size_t n = page_of(b, 5, 0, found);
+    for (size_t i = 0; i < n; i++) {
+        bookie_reply reply;
+        size_t length = content(5, found[i] - found[i] % 10, bytes);
+        int status = bookie_read(b, 5, found[i], &reply);
+        right += status == BOOKIE_ENTRY && reply.length == length && memcmp(reply.bytes, bytes, length) == 0;
+        bookie_reply_free(&reply);
+    }
+    return right;
+}
+
+/* Each threshold takes the logs below it, 0 takes none, and entries are read from the copies. */
+static void compactions(bookie *b) {
+    bookie_figures before, after;
+    bookie_seal(b);
+    print_compacted(b, "compact", 200, 800);
+    fill_logs(b);
+    must("delete", bookie_delete(b, 6, NULL), BOOKIE_DROPPED);
+    must("stats", bookie_stats(b, &before), BOOKIE_FIGURES);
+    print_compacted(b, "\nomitted", 0, 0);
+    print_compacted(b, "\nminor", 200, 0);
+    print_compacted(b, " again", 200, 0);
+    print_compacted(b, "\nmajor", 0, 800);
+    print_compacted(b, " again", 0, 800);
+    must("stats", bookie_stats(b, &after), BOOKIE_FIGURES);
+    unsigned long long freed[] = {before.logs - after.logs, before.bytes - after.bytes, before.live, after.live};
+    printf("\nfreed %llu %llu live %llu %llu\n", freed[0], freed[1], freed[2], freed[3]);
+    printf("thresholds %s ", refusal(bookie_compact(b, 800, 200, NULL)));
+    printf("%s ", refusal(bookie_compact(b, 2000, 0, NULL)));
+    printf("%s\n", refusal(bookie_compact(b, 0, 200, NULL)));
+    printf("copied %d\n", count_copied(b));
 }
 
 static uint64_t send_large(bookie *b, uint64_t entry) {
@@ -265,23 +311,23 @@ static uint64_t send_large(bookie *b, uint64_t entry) {
 
 /* Large adds and large reads at once, all sent ahead: neither side may wait for the other. */
 static void large_entries(bookie *b) {
-    uint64_t added[40], sent[20];
+    uint64_t added[2 * LARGE], sent[LARGE];
     uint8_t digest[32];
     int count = 0;
     sha256_state state;
     sha256_begin(&state);
-    for (uint64_t e = 0; e < 20; e++) added[e] = send_large(b, e);
-    for (int e = 0; e < 20; e++) count += bookie_wait(b, added[e], NULL) == BOOKIE_ACCEPTED;
-    for (uint64_t e = 0; e < 20; e++) {
+    for (uint64_t e = 0; e < LARGE; e++) added[e] = send_large(b, e);
+    for (int e = 0; e < LARGE; e++) count += bookie_wait(b, added[e], NULL) == BOOKIE_ACCEPTED;
+    for (uint64_t e = 0; e < LARGE; e++) {
         sent[e] = bookie_send(b, BOOKIE_READ, (uint64_t[]){4, e}, NULL, 0);
-        added[20 + e] = send_large(b, 20 + e);
+        added[LARGE + e] = send_large(b, LARGE + e);
     }
-    for (int e = 0; e < 20; e++) {
+    for (int e = 0; e < LARGE; e++) {
         bookie_reply reply;
         must("read", bookie_wait(b, sent[e], &reply), BOOKIE_ENTRY);
         sha256_add(&state, reply.bytes, reply.length);
         bookie_reply_free(&reply);
-        count += bookie_wait(b, added[20 + e], NULL) == BOOKIE_ACCEPTED;
+        count += bookie_wait(b, added[LARGE + e], NULL) == BOOKIE_ACCEPTED;
     }
     sha256_end(&state, digest);
     printf("large %d ", count);
@@ -297,12 +343,10 @@ static void deletions_and_upkeep(bookie *b) {
     printf("%s ", refusal(bookie_read(b, 2, 0, NULL)));
     printf("%s\n", refusal(bookie_add(b, 2, 0, "x", 1, NULL)));
     printf("holds %s\n", bookie_status_text(bookie_holds(b, 2, 0)));
-    bookie_seal(b);
-    printf("compact %s ", refusal(bookie_compact(b, 200, 800)));
-    printf("%s\n", refusal(bookie_compact(b, 2000, 0)));
+    compactions(b);
     large_entries(b);
     must("checkpoint", bookie_checkpoint(b, &front), BOOKIE_DURABLE);
-    printf("durable %s\n", yes(front >= 10001));
+    printf("durable %s\n", yes(front > 2 * COUNT));
     bookie_seal(b);
 }
 
@@ -329,17 +373,17 @@ static void killed_session(bookie *b) {
 static void last_session(bookie *b) {
     uint64_t found[PAGE];
     size_t n, all = 0;
-    char text[600];
-    bookie_reply key;
+    char text[2][600];
+    bookie_reply key, lac;
     int is_published = 1, is_all_right = 1;
     opened(b);
-    read_all(b, (uint64_t[]){1}, 1);
-    if (offers_all(b)) {
-        bookie_master_key(b, 1, &key);
-        const char *is_fenced = bookie_status_text(bookie_is_fenced(b, 1));
-        printf("fenced %s %s %s\n", is_fenced, refusal(bookie_read(b, 2, 0, NULL)), hex(&key, text));
-        bookie_reply_free(&key);
-    }
+    read_all(b, (uint64_t[]){1, 5}, 2);
+    bookie_master_key(b, 1, &key);
+    bookie_explicit_lac(b, 1, &lac);
+    const char *is_fenced = bookie_status_text(bookie_is_fenced(b, 1));
+    printf("fenced %s %s %s %s\n", is_fenced, refusal(bookie_read(b, 2, 0, NULL)), hex(&key, text[0]), hex(&lac, text[1]));
+    bookie_reply_free(&key);
+    bookie_reply_free(&lac);
     for (uint64_t from = 0; (n = page_of(b, 3, from, found)) > 0; from = found[n - 1] + 1)
         for (size_t i = 0; i < n; i++, all++) {
             is_published &= all >= 1000 || found[i] == all;
@@ -360,15 +404,16 @@ int main(int count, char **words) {
     must("open", bookie_open(command, &b), BOOKIE_WELCOME);
     entries_and_reads(b);
     fences(b);
-    if (offers_all(b)) {
-        attributes(b);
-        figures(b);
-    }
+    attributes(b);
+    figures(b);
     deletions_and_upkeep(b);
-    bookie_close(b);
+    if (bookie_close(b) != 0) fail("close", BOOKIE_GONE);
     must("open", bookie_open(command, &b), BOOKIE_WELCOME);
     killed_session(b);
     must("open", bookie_open(command, &b), BOOKIE_WELCOME);
     last_session(b);
+    char directory[4096];
+    snprintf(directory, sizeof directory, "%s-ends", words[2]);
+    test_ends((char *[]){words[1], directory, NULL});
     return 0;
 }

@@ -1,4 +1,4 @@
-"""Client of `bk_serve`: one directory, served by a child process.
+"""Client of `bk_serve`: one directory, served by a child process, or by a daemon (`Bookie.connect`).
 
     with Bookie(["bk_serve", "/var/bookie"]) as bookie:
         receipt = bookie.add(1, 0, b"hello")
@@ -9,14 +9,25 @@
         assert bookie.read(1, 0) == b"hello"
 
 Requests may be sent ahead, from any thread: `send` returns a future. Each other method waits.
+
+`accepted` is worth memory: what is not flushed is lost if the server is killed. README.md, Signals, says what ends it.
 """
 
+import os
+import socket
 import subprocess
 import threading
+import time
 from concurrent.futures import Future
 from typing import NamedTuple
 
 import frames
+
+# Seconds before a directory that is in use is opened again: the first pause, each twice the one before, and the longest.
+PAUSE, LONGEST = 0.05, 1
+# Replies that make each entry durable whose add was sent before their request.
+FLUSHED = ("flushed", "durable", "sealed", "nothing_open", "closed")
+FLUSHES = ("flush", "checkpoint", "seal", "close")
 
 
 class Refused(Exception):
@@ -41,14 +52,114 @@ class Receipt(NamedTuple):
     digest: bytes
 
 
-class Bookie:
-    """A session. `command` is the program and its arguments."""
+class Unflushed:
+    """Counts the entries that were accepted and that no answered flush covers, by the ids of requests."""
 
-    def __init__(self, command, **options):
-        self.process = subprocess.Popen(command, stdin=subprocess.PIPE, stdout=subprocess.PIPE, **options)
+    def __init__(self):
+        # Accepted: all, and those sent after the flush that was sent last. The greatest ids: of an accepted add, of an
+        # answered flush, and of a flush that was sent.
+        self._all = self._after = self._accepted = self._covered = self._flush = 0
+
+    def sent(self, id, name):
+        if name in FLUSHES:
+            self._flush, self._after = id, 0
+
+    def answered(self, id, name):
+        if name == "accepted":
+            self._accepted = max(self._accepted, id)
+            self._all += id > self._covered
+            self._after += id > self._flush
+        elif name in FLUSHED:
+            self._covered = max(self._covered, id)
+            if id == self._flush:
+                self._all = self._after
+
+    def count(self):
+        """Returns how many, or more while a later flush has no answer."""
+        return self._all if self._accepted > self._covered else 0
+
+
+class Output:
+    """What is written to a connection."""
+
+    def __init__(self, connection):
+        self._connection, self.write = connection, connection.sendall
+
+    def flush(self):
+        pass
+
+    def close(self):
+        self._connection.shutdown(socket.SHUT_WR)
+
+
+class Connection:
+    """A connection to a daemon, in the place of the process of a server."""
+
+    def __init__(self, address):
+        if isinstance(address, tuple):
+            self._socket = socket.create_connection(address)
+            self._socket.setsockopt(socket.IPPROTO_TCP, socket.TCP_NODELAY, 1)
+        else:
+            self._socket = socket.socket(socket.AF_UNIX)
+            self._socket.connect(os.fspath(address))
+        self.stdin, self.stdout = Output(self._socket), self._socket.makefile("rb")
+
+    def kill(self):
+        try:
+            self._socket.shutdown(socket.SHUT_RDWR)
+        except OSError:
+            pass  # it has ended
+
+    def wait(self):
+        """Returns 0: the connection has no exit status."""
+        self._socket.close()  # the file that is read keeps it until that is closed
+        return 0
+
+
+class Bookie:
+    """A session.
+
+    `command` is the program and its arguments. While another process has the directory, as a predecessor that still
+    flushes, the session is opened again for `wait` seconds; then `Refused` has the name `in_use`. `options` are those of
+    `subprocess.Popen`. The server gets a session of the system of its own, so that a signal to the group of this process,
+    as ^C sends, does not end it before this client closes.
+    """
+
+    def __init__(self, command, wait=10, **options):
+        options.setdefault("start_new_session", True)
+        if not is_open(2):
+            # Else a file of the directory would be the server's error stream.
+            options.setdefault("stderr", subprocess.DEVNULL)
+        self._open_within(wait, lambda: subprocess.Popen(command, stdin=subprocess.PIPE, stdout=subprocess.PIPE, **options))
+
+    @classmethod
+    def connect(cls, address, wait=10):
+        """Opens a session with a daemon (../../tools/daemon), by the path of its socket or by a host and a port.
+
+        The calls are the same. `close` flushes and ends this session, not the server, and so does `kill`, which does not
+        wait. Both return 0. A daemon that has as many clients as it takes is `in_use`, and is tried again for `wait` seconds.
+        """
+        self = cls.__new__(cls)
+        self._open_within(wait, lambda: Connection(address))
+        return self
+
+    def _open_within(self, wait, start):
+        until, pause = time.monotonic() + wait, PAUSE
+        while True:
+            try:
+                return self._open(start())
+            except Refused as refused:
+                if refused.name != "in_use" or time.monotonic() + pause > until:
+                    raise
+            time.sleep(pause)
+            pause = min(2 * pause, LONGEST)
+
+    def _open(self, process):
+        self.process = process
         # The reader takes `_lock` alone, which nobody holds while a write blocks: so replies are always read.
         self._lock, self._writing = threading.Lock(), threading.Lock()
         self._waiting, self._last, self._why = {}, 0, None
+        self._unflushed, self._is_closed = Unflushed(), False
         self._room = threading.BoundedSemaphore(1)
         self._reader = threading.Thread(target=self._read_all, daemon=True)
         self._reader.start()
@@ -62,8 +173,12 @@ class Bookie:
     # ---- requests and replies
 
     def send(self, name, **fields):
-        """Sends a request. Returns the future of its reply. Blocks while `in_flight` are unanswered."""
+        """Sends a request. Returns the future of its reply. Blocks while `in_flight` are unanswered.
+
+        What was sent is carried out: the future cannot be cancelled. Who waits for it may be, as by `asyncio.wait_for`.
+        """
         future, room = Future(), self._room
+        future.set_running_or_notify_cancel()
         room.acquire()
         future.add_done_callback(lambda _: room.release())
         with self._writing:
@@ -76,6 +191,7 @@ class Bookie:
                         future.set_exception(error)
                         raise
                     self._last, self._waiting[id] = id, future
+                    self._unflushed.sent(id, name)
             if why is not None:
                 future.set_exception(Ended(why))
                 return future
@@ -84,6 +200,9 @@ class Bookie:
                 self.process.stdin.flush()
             except OSError:
                 pass  # the reader meets the end of the output and fails what is waiting
+            except BaseException:
+                self._end_input()  # a signal's handler raised amid the frame: the server ends in order
+                raise
         return future
 
     def _call(self, name, **fields):
@@ -100,6 +219,7 @@ class Bookie:
                     break
                 with self._lock:
                     future = self._waiting.pop(id, None)
+                    self._unflushed.answered(id, reply.name)
                 if future is None:
                     why = f"reply to no request: {id}"
                     break
@@ -198,7 +318,11 @@ class Bookie:
         return self._call("checkpoint").front
 
     def compact(self, minor=0, major=0):
-        """Compacts logs whose live share is below a threshold, in thousandths; 0 omits a kind."""
+        """Compacts the logs whose live share is below the server's thresholds. Returns `logs` removed, `entries` copied.
+
+        `minor` and `major` are these thresholds in thousandths, 200 and 800 unless the server has others. 0 omits a kind,
+        and any other number is refused by `out_of_range`.
+        """
         return self._call("compact", minor=minor, major=major)
 
     def stats(self):
@@ -211,30 +335,44 @@ class Bookie:
 
     # ---- end
 
-    def close(self):
-        """Ends the session in order. Returns the exit status of the server. A second call does nothing.
+    @property
+    def unflushed(self):
+        """How many entries were accepted that may be in memory alone: no flush that was sent later is answered."""
+        with self._lock:
+            return self._unflushed.count()
 
-        If the flush fails, the session ends too, and `Refused` is raised, which names why.
+    def close(self):
+        """Flushes and ends the session. If it returns, everything that was accepted is durable.
+
+        Returns the exit status of the server. If the flush fails, the session ends too, and `Refused` is raised, which
+        names why. If the session had ended before, or ends meanwhile, `Ended` is raised, which says how many entries may
+        be lost. After `close` or `kill` a call does nothing but return the status.
         """
+        if self._is_closed:
+            return self._end()
+        self._is_closed = True
         try:
-            if self._why is None:
-                self._call("close")
-        except Ended:
-            pass
+            self._call("close")
+        except Ended as ended:
+            raise Ended(f"{ended}; accepted and not flushed: {self.unflushed}") from None
         finally:
             status = self._end()
         return status
 
     def kill(self):
-        """Ends the server at once, as a crash does."""
+        """Ends the server at once, as a crash does. What was accepted and not flushed is lost."""
+        self._is_closed = True
         self.process.kill()
         return self._end()
 
-    def _end(self):
+    def _end_input(self):
         try:
             self.process.stdin.close()
         except OSError:
             pass
+
+    def _end(self):
+        self._end_input()
         status = self.process.wait()
         self._reader.join()
         self.process.stdout.close()
@@ -250,3 +388,11 @@ class Bookie:
 def receipt_of(ledger, entry, reply):
     """Returns the receipt of a reply to an add, or None if the entry was held."""
     return Receipt(reply.number, ledger, entry, reply.digest) if reply.name == "accepted" else None
+
+
+def is_open(file):
+    try:
+        os.fstat(file)
+        return True
+    except OSError:
+        return False

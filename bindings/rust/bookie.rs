@@ -1,4 +1,5 @@
-//! Client of `bk_serve` (../protocol.md): one directory, served by a child process. Needs std alone.
+//! Client of `bk_serve` (../protocol.md): one directory, served by a child process, or by a daemon
+//! (`Bookie::connect`). Needs std alone.
 //!
 //! ```ignore
 //! let bookie = Bookie::open("bk_serve", &["/var/bookie"])?;
@@ -12,154 +13,40 @@
 //!
 //! Requests may be sent ahead, from any thread. `send` returns what a later `wait` gets the reply of;
 //! every other method waits.
+//!
+//! `accepted` is worth memory: what is not flushed is lost if the server is killed. README.md, Signals,
+//! says what ends it.
 
+// A program that has this file as a module need not use all of it.
+#![allow(dead_code)]
+
+#[path = "frames.rs"]
+mod frames;
+
+pub use frames::{Call, Reply, Status};
+use frames::{LARGEST, MAGIC, SHORTEST, VERSION, number};
 use std::collections::HashMap;
 use std::fmt;
 use std::io::{self, BufReader, Read, Write};
-use std::process::{Child, ChildStdin, Command, ExitStatus, Stdio};
+#[cfg(unix)]
+use std::net::Shutdown;
+#[cfg(unix)]
+use std::os::unix::net::UnixStream;
+#[cfg(unix)]
+use std::os::unix::process::{CommandExt, ExitStatusExt};
+#[cfg(unix)]
+use std::path::Path;
+use std::process::{Child, Command, ExitStatus, Stdio};
 use std::sync::mpsc::{Receiver, Sender, channel};
 use std::sync::{Arc, Condvar, Mutex, MutexGuard, PoisonError};
 use std::thread::{self, JoinHandle};
+use std::time::{Duration, Instant};
 
-const MAGIC: u64 = u64::from_be_bytes(*b"BKSERVE\n");
-const VERSION: u64 = 1;
-const LARGEST: usize = 5_000_064;
+/// How long `open` tries to open a directory that is in use.
+pub const WAIT: Duration = Duration::from_secs(10);
 
-/// Writes an enum of kinds of frames: code, name, number of numbers, least and most bytes after them.
-macro_rules! kinds {
-    ($(#[$doc:meta])* $name:ident { $($kind:ident = $code:literal, $text:literal, $numbers:literal, $least:literal, $most:literal;)* }) => {
-        $(#[$doc])*
-        #[derive(Clone, Copy, Debug, PartialEq, Eq)]
-        pub enum $name { $($kind = $code),* }
-
-        #[allow(dead_code)]
-        impl $name {
-            /// The name of the protocol's page.
-            pub fn text(self) -> &'static str {
-                match self { $($name::$kind => $text),* }
-            }
-
-            fn layout(self) -> (usize, usize, usize) {
-                match self { $($name::$kind => ($numbers, $least, $most)),* }
-            }
-
-            fn of(code: u8) -> Option<$name> {
-                match code { $($code => Some($name::$kind),)* _ => None }
-            }
-        }
-    };
-}
-
-kinds! {
-    /// Calls of requests.
-    Call {
-        Hello = 1, "hello", 3, 0, 0;
-        Add = 2, "add", 2, 0, 4999984;
-        AddRecovery = 3, "add_recovery", 2, 0, 4999984;
-        Read = 4, "read", 2, 0, 0;
-        ReadLast = 5, "read_last", 1, 0, 0;
-        ReadBack = 6, "read_back", 3, 32, 32;
-        LastEntry = 7, "last_entry", 1, 0, 0;
-        Holds = 8, "holds", 2, 0, 0;
-        Entries = 9, "entries", 3, 0, 0;
-        Ledgers = 10, "ledgers", 2, 0, 0;
-        Fence = 11, "fence", 1, 0, 0;
-        IsFenced = 12, "is_fenced", 1, 0, 0;
-        Delete = 13, "delete", 1, 0, 0;
-        SetMasterKey = 14, "set_master_key", 1, 0, 256;
-        MasterKey = 15, "master_key", 1, 0, 0;
-        SetExplicitLac = 16, "set_explicit_lac", 1, 0, 256;
-        ExplicitLac = 17, "explicit_lac", 1, 0, 0;
-        Flush = 18, "flush", 0, 0, 0;
-        Checkpoint = 19, "checkpoint", 0, 0, 0;
-        Compact = 20, "compact", 2, 0, 0;
-        Stats = 21, "stats", 0, 0, 0;
-        Seal = 22, "seal", 0, 0, 0;
-        Close = 23, "close", 0, 0, 0;
-    }
-}
-
-kinds! {
-    /// Statuses of replies.
-    Status {
-        Welcome = 32, "welcome", 4, 0, 0;
-        Accepted = 33, "accepted", 1, 32, 32;
-        Held = 34, "held", 0, 0, 0;
-        Entry = 35, "entry", 2, 0, 4999984;
-        NotHeld = 36, "not_held", 0, 0, 0;
-        Last = 37, "last", 1, 0, 0;
-        Yes = 38, "yes", 0, 0, 0;
-        No = 39, "no", 0, 0, 0;
-        Page = 40, "page", 0, 0, 524288;
-        FencedNow = 41, "fenced_now", 0, 0, 0;
-        FencedBefore = 42, "fenced_before", 0, 0, 0;
-        Dropped = 43, "dropped", 1, 0, 0;
-        Stored = 44, "stored", 0, 0, 0;
-        Attribute = 45, "attribute", 0, 0, 256;
-        NoAttribute = 46, "no_attribute", 0, 0, 0;
-        Flushed = 47, "flushed", 1, 0, 0;
-        Durable = 48, "durable", 1, 0, 0;
-        Compacted = 49, "compacted", 2, 0, 0;
-        Figures = 50, "figures", 10, 0, 0;
-        Sealed = 51, "sealed", 1, 0, 0;
-        NothingOpen = 52, "nothing_open", 0, 0, 0;
-        Closed = 53, "closed", 1, 0, 0;
-        Backwards = 64, "backwards", 2, 0, 0;
-        Negative = 65, "negative", 0, 0, 0;
-        TooLong = 66, "too_long", 1, 0, 0;
-        Deleted = 67, "deleted", 0, 0, 0;
-        Fenced = 68, "fenced", 0, 0, 0;
-        Full = 69, "full", 2, 0, 0;
-        Memory = 70, "memory", 0, 0, 0;
-        NoSeat = 71, "no_seat", 0, 0, 0;
-        TooMany = 72, "too_many", 0, 0, 0;
-        AlreadyDeleted = 73, "already_deleted", 0, 0, 0;
-        Missing = 74, "missing", 1, 0, 0;
-        Differs = 75, "differs", 0, 0, 0;
-        NotThere = 76, "not_there", 0, 0, 0;
-        Disk = 77, "disk", 0, 0, 0;
-        Odd = 78, "odd", 0, 0, 0;
-        LogsFull = 79, "logs_full", 0, 0, 0;
-        NoMoreIds = 80, "no_more_ids", 0, 0, 0;
-        Settings = 81, "settings", 0, 0, 0;
-        BadLog = 82, "bad_log", 1, 0, 0;
-        LogTooLong = 83, "log_too_long", 1, 0, 0;
-        InUse = 84, "in_use", 0, 0, 0;
-        Busy = 85, "busy", 0, 0, 0;
-        OutOfRange = 86, "out_of_range", 0, 0, 0;
-        NoThread = 87, "no_thread", 0, 0, 0;
-        NotOffered = 88, "not_offered", 0, 0, 0;
-        NoHello = 96, "no_hello", 0, 0, 0;
-        Version = 97, "version", 2, 0, 0;
-        SecondHello = 98, "second_hello", 0, 0, 0;
-        Cut = 99, "cut", 2, 0, 0;
-        Short = 100, "short", 1, 0, 0;
-        Oversized = 101, "oversized", 2, 0, 0;
-        UnknownCall = 102, "unknown_call", 1, 0, 0;
-        BadFields = 103, "bad_fields", 2, 0, 0;
-        NotRising = 104, "not_rising", 2, 0, 0;
-        InputFailed = 105, "input_failed", 0, 0, 0;
-        NoMemory = 106, "no_memory", 0, 0, 0;
-    }
-}
-
-impl Status {
-    pub fn is_refusal(self) -> bool {
-        (64..96).contains(&(self as u8))
-    }
-
-    pub fn is_end(self) -> bool {
-        self as u8 >= 96
-    }
-}
-
-/// A reply that is no refusal: its numbers in the order of the protocol's page, and the bytes after them.
-#[derive(Clone, Debug, PartialEq, Eq)]
-pub struct Reply {
-    pub status: Status,
-    pub numbers: Vec<u64>,
-    pub bytes: Vec<u8>,
-}
+/// The first pause between two tries, each twice the one before, and the longest.
+const PAUSES: (Duration, Duration) = (Duration::from_millis(50), Duration::from_secs(1));
 
 /// Evidence that an entry was accepted: the number of its mark in the trail, its key, and the SHA-256 of the entry.
 #[derive(Clone, Copy, Debug, PartialEq, Eq)]
@@ -168,6 +55,30 @@ pub struct Receipt {
     pub ledger: u64,
     pub entry: u64,
     pub digest: [u8; 32],
+}
+
+/// The store in numbers, as `stats` answers; protocol.md has what each counts.
+#[derive(Clone, Copy, Debug, PartialEq, Eq)]
+pub struct Figures {
+    pub logs: u64,
+    pub bytes: u64,
+    pub live: u64,
+    pub cached: u64,
+    pub indexed: u64,
+    pub durable: u64,
+    pub next_log: u64,
+    pub front: u64,
+    pub leases: u64,
+    pub failures: u64,
+}
+
+/// What a call of `compact` did.
+#[derive(Clone, Copy, Debug, PartialEq, Eq)]
+pub struct Compacted {
+    /// Logs that were removed.
+    pub logs: u64,
+    /// Entries that were copied.
+    pub entries: u64,
 }
 
 /// Why a call failed.
@@ -205,7 +116,7 @@ impl From<io::Error> for Error {
 
 type Outcome = Result<Reply, Error>;
 
-/// A request that was sent.
+/// A request that was sent. It is carried out even if this is dropped.
 pub struct Pending(Receiver<Outcome>);
 
 impl Pending {
@@ -215,14 +126,55 @@ impl Pending {
     }
 }
 
+/// Counts the entries that were accepted and that no answered flush covers, by the ids of requests.
+#[derive(Default)]
+struct Unflushed {
+    /// Entries that were accepted: all, and those sent after the flush that was sent last.
+    all: u64,
+    after: u64,
+    /// The greatest ids of an accepted add, of an answered flush, and of a flush that was sent.
+    accepted: u64,
+    covered: u64,
+    flush: u64,
+}
+
+impl Unflushed {
+    fn sent(&mut self, id: u64, call: Call) {
+        if call.is_flush() {
+            (self.flush, self.after) = (id, 0);
+        }
+    }
+
+    fn answered(&mut self, id: u64, status: Status) {
+        if status == Status::Accepted {
+            self.accepted = self.accepted.max(id);
+            self.all += u64::from(id > self.covered);
+            self.after += u64::from(id > self.flush);
+        } else if status.is_flushed() {
+            self.covered = self.covered.max(id);
+            if id == self.flush {
+                self.all = self.after;
+            }
+        }
+    }
+
+    /// Returns how many, or more while a later flush has no answer.
+    fn count(&self) -> u64 {
+        if self.accepted > self.covered { self.all } else { 0 }
+    }
+}
+
 /// What the senders and the reader share.
 struct Session {
     waiting: HashMap<u64, Sender<Outcome>>,
     last_id: u64,
     unanswered: usize,
     in_flight: usize,
+    unflushed: Unflushed,
     /// Why the session ended, if it did.
     end: Option<String>,
+    /// Whether `close` or `kill` was called.
+    is_closed: bool,
 }
 
 struct Shared {
@@ -230,7 +182,7 @@ struct Shared {
     session: Mutex<Session>,
     answered: Condvar,
     /// Held while a request gets its id and is written.
-    input: Mutex<Option<ChildStdin>>,
+    input: Mutex<Option<Box<dyn Write + Send>>>,
 }
 
 impl Shared {
@@ -239,39 +191,129 @@ impl Shared {
     }
 }
 
-/// A session. If it is dropped without `close`, the server still ends in order.
+/// Who carries out the requests.
+enum Server {
+    Child(Child),
+    #[cfg(unix)]
+    Daemon(UnixStream),
+}
+
+impl Server {
+    /// Ends the session at once.
+    fn kill(&mut self) -> io::Result<()> {
+        match self {
+            Server::Child(child) => child.kill(),
+            #[cfg(unix)]
+            Server::Daemon(connection) => connection.shutdown(Shutdown::Both).or_else(is_gone),
+        }
+    }
+
+    /// Waits for the server, which gets no more requests. A daemon lives on: its status is 0.
+    fn wait(&mut self) -> io::Result<ExitStatus> {
+        match self {
+            Server::Child(child) => child.wait(),
+            #[cfg(unix)]
+            Server::Daemon(connection) => {
+                connection.shutdown(Shutdown::Write).or_else(is_gone)?;
+                Ok(ExitStatus::from_raw(0))
+            }
+        }
+    }
+}
+
+/// Nothing has to be shut of a connection that has ended.
+fn is_gone(error: io::Error) -> io::Result<()> {
+    if error.kind() == io::ErrorKind::NotConnected { Ok(()) } else { Err(error) }
+}
+
+/// A session. If it is dropped without `close`, the server still ends in order, and nobody learns if it failed.
 pub struct Bookie {
     shared: Arc<Shared>,
-    child: Mutex<Child>,
+    server: Mutex<Server>,
     reader: Mutex<Option<JoinHandle<()>>>,
     version: u64,
     page: u64,
 }
 
 impl Bookie {
-    /// Starts the server and opens its directory.
+    /// Starts the server and opens its directory. While another process has the directory, as a predecessor
+    /// that still flushes, it is opened again for `WAIT`; then the refusal is `Status::InUse`.
+    ///
+    /// The server gets a process group of its own, so that a signal to the group of this process, as ^C
+    /// sends, does not end it before this client closes.
     pub fn open(program: &str, arguments: &[&str]) -> Result<Bookie, Error> {
-        let mut child =
-            Command::new(program).args(arguments).stdin(Stdio::piped()).stdout(Stdio::piped()).spawn()?;
+        Bookie::open_within(program, arguments, WAIT)
+    }
+
+    /// The same with another time, which may be zero.
+    pub fn open_within(program: &str, arguments: &[&str], wait: Duration) -> Result<Bookie, Error> {
+        again_within(wait, || Bookie::open_once(program, arguments))
+    }
+
+    /// Opens a session with a daemon (../../tools/daemon) by the path of its socket. While the daemon has as many clients
+    /// as it takes, it is tried again for `WAIT`; then the refusal is `Status::InUse`.
+    ///
+    /// The calls are the same. `close` flushes and ends this session, not the server, and so does `kill`, which does not
+    /// wait. Both return the status 0.
+    #[cfg(unix)]
+    pub fn connect(path: impl AsRef<Path>) -> Result<Bookie, Error> {
+        again_within(WAIT, || {
+            let connection = UnixStream::connect(&path)?;
+            let (input, output) = (connection.try_clone()?, connection.try_clone()?);
+            Bookie::greet(Box::new(input), output, Server::Daemon(connection))
+        })
+    }
+
+    fn open_once(program: &str, arguments: &[&str]) -> Result<Bookie, Error> {
+        let mut command = Command::new(program);
+        command.args(arguments).stdin(Stdio::piped()).stdout(Stdio::piped());
+        #[cfg(unix)]
+        command.process_group(0);
+        let mut child = command.spawn()?;
+        let input = child.stdin.take().ok_or(Error::Invalid)?;
         let output = child.stdout.take().ok_or(Error::Invalid)?;
+        Bookie::greet(Box::new(input), output, Server::Child(child))
+    }
+
+    /// Begins the session with what was started.
+    fn greet(
+        input: Box<dyn Write + Send>,
+        output: impl Read + Send + 'static,
+        server: Server,
+    ) -> Result<Bookie, Error> {
         let session = Session {
             waiting: HashMap::new(),
             last_id: 0,
             unanswered: 0,
             in_flight: 1,
+            unflushed: Unflushed::default(),
             end: None,
+            is_closed: false,
         };
-        let input = Mutex::new(child.stdin.take());
+        let input = Mutex::new(Some(input));
         let shared = Arc::new(Shared { session: Mutex::new(session), answered: Condvar::new(), input });
         let theirs = Arc::clone(&shared);
         let reader = thread::spawn(move || read_all(&theirs, BufReader::with_capacity(1 << 16, output)));
-        let mut bookie =
-            Bookie { shared, child: Mutex::new(child), reader: Mutex::new(Some(reader)), version: 0, page: 0 };
+        let (server, reader) = (Mutex::new(server), Mutex::new(Some(reader)));
+        let mut bookie = Bookie { shared, server, reader, version: 0, page: 0 };
         let welcome = bookie.call(Call::Hello, &[MAGIC, VERSION, VERSION], &[])?;
         bookie.shared.lock().in_flight = welcome.numbers[2].min(1 << 20) as usize;
         bookie.version = welcome.numbers[0];
         bookie.page = welcome.numbers[3];
         Ok(bookie)
+    }
+
+    /// The process id of the server, or `None` if it is a daemon's.
+    pub fn id(&self) -> Option<u32> {
+        match &*self.server() {
+            Server::Child(child) => Some(child.id()),
+            #[cfg(unix)]
+            Server::Daemon(_) => None,
+        }
+    }
+
+    fn server(&self) -> MutexGuard<'_, Server> {
+        self.server.lock().unwrap_or_else(PoisonError::into_inner)
     }
 
     pub fn version(&self) -> u64 {
@@ -287,7 +329,13 @@ impl Bookie {
         Pending(receiver)
     }
 
-    fn enqueue(&self, call: Call, numbers: &[u64], bytes: &[u8], sender: &Sender<Outcome>) -> Result<(), Error> {
+    fn enqueue(
+        &self,
+        call: Call,
+        numbers: &[u64],
+        bytes: &[u8],
+        sender: &Sender<Outcome>,
+    ) -> Result<(), Error> {
         self.wait_for_room();
         let mut input = self.shared.input.lock().unwrap_or_else(PoisonError::into_inner);
         let frame = self.register(call, numbers, bytes, sender)?;
@@ -307,15 +355,22 @@ impl Bookie {
     }
 
     /// Returns the frame of a request that is waited for from now on.
-    fn register(&self, call: Call, numbers: &[u64], bytes: &[u8], sender: &Sender<Outcome>) -> Result<Vec<u8>, Error> {
+    fn register(
+        &self,
+        call: Call,
+        numbers: &[u64],
+        bytes: &[u8],
+        sender: &Sender<Outcome>,
+    ) -> Result<Vec<u8>, Error> {
         let mut session = self.shared.lock();
         let id = session.last_id + 1;
         let frame = match &session.end {
             Some(why) => Err(Error::Ended(why.clone())),
-            None => encode(call, id, numbers, bytes).ok_or(Error::Invalid),
+            None => call.frame(id, numbers, bytes).ok_or(Error::Invalid),
         };
         if frame.is_ok() {
             session.last_id = id;
+            session.unflushed.sent(id, call);
             session.waiting.insert(id, sender.clone());
         } else {
             session.unanswered -= 1;
@@ -433,14 +488,22 @@ impl Bookie {
         Ok(self.call(Call::Checkpoint, &[], &[])?.numbers[0])
     }
 
-    /// Compacts the logs whose live share is below a threshold, in thousandths; 0 omits a kind.
-    pub fn compact(&self, minor: u64, major: u64) -> Outcome {
-        self.call(Call::Compact, &[minor, major], &[])
+    /// Compacts the logs whose live share is below the server's thresholds. `minor` and `major` are these in
+    /// thousandths, 200 and 800 unless the server has others. 0 omits a kind, and any other number is refused by
+    /// `OutOfRange`.
+    pub fn compact(&self, minor: u64, major: u64) -> Result<Compacted, Error> {
+        let numbers = self.call(Call::Compact, &[minor, major], &[])?.numbers;
+        Ok(Compacted { logs: numbers[0], entries: numbers[1] })
     }
 
-    /// Returns the reply `Figures`.
-    pub fn stats(&self) -> Outcome {
-        self.call(Call::Stats, &[], &[])
+    /// Returns the store in numbers.
+    pub fn stats(&self) -> Result<Figures, Error> {
+        let numbers = self.call(Call::Stats, &[], &[])?.numbers;
+        let [logs, bytes, live, cached, indexed, durable, next_log, front, leases, failures] = numbers[..]
+        else {
+            return Err(Error::Invalid); // does not occur: the reply has ten numbers
+        };
+        Ok(Figures { logs, bytes, live, cached, indexed, durable, next_log, front, leases, failures })
     }
 
     /// Flushes and seals the open log. Returns its id, or `None` if no log is open.
@@ -451,24 +514,41 @@ impl Bookie {
 
     // ---- end
 
-    /// Ends the session in order: everything that was accepted is durable then. Returns the server's exit status. If the
-    /// flush fails, the session ends too, and the error is why.
+    /// How many entries were accepted that may be in memory alone: no flush that was sent later is answered.
+    pub fn unflushed(&self) -> u64 {
+        self.shared.lock().unflushed.count()
+    }
+
+    /// Flushes and ends the session. If it is `Ok`, everything that was accepted is durable.
+    ///
+    /// Returns the server's exit status. If the flush fails, the session ends too, and the error is why. If the
+    /// session had ended before, or ends meanwhile, it is `Ended`, which says how many entries may be lost. After
+    /// `close` or `kill` a call does nothing but return the status.
     pub fn close(&self) -> Result<ExitStatus, Error> {
-        match self.call(Call::Close, &[], &[]) {
-            Ok(_) | Err(Error::Ended(_)) => self.end(),
-            Err(error) => self.end().and(Err(error)),
+        if std::mem::replace(&mut self.shared.lock().is_closed, true) {
+            return self.end();
+        }
+        let outcome = self.call(Call::Close, &[], &[]);
+        let status = self.end()?;
+        match outcome {
+            Ok(_) => Ok(status),
+            Err(Error::Ended(why)) => {
+                Err(Error::Ended(format!("{why}; accepted and not flushed: {}", self.unflushed())))
+            }
+            Err(error) => Err(error),
         }
     }
 
-    /// Ends the server at once, as a crash does.
+    /// Ends the server at once, as a crash does. What was accepted and not flushed is lost.
     pub fn kill(&self) -> Result<ExitStatus, Error> {
-        self.child.lock().unwrap_or_else(PoisonError::into_inner).kill()?;
+        self.shared.lock().is_closed = true;
+        self.server().kill()?;
         self.end()
     }
 
     fn end(&self) -> Result<ExitStatus, Error> {
         *self.shared.input.lock().unwrap_or_else(PoisonError::into_inner) = None;
-        let status = self.child.lock().unwrap_or_else(PoisonError::into_inner).wait()?;
+        let status = self.server().wait()?;
         if let Some(reader) = self.reader.lock().unwrap_or_else(PoisonError::into_inner).take() {
             let _ = reader.join();
         }
@@ -482,6 +562,19 @@ impl Drop for Bookie {
     }
 }
 
+/// Opens a session again while it is refused by `InUse`, for a time. The pauses grow.
+fn again_within(wait: Duration, open: impl Fn() -> Result<Bookie, Error>) -> Result<Bookie, Error> {
+    let (start, mut pause) = (Instant::now(), PAUSES.0);
+    loop {
+        match open() {
+            Err(Error::Refused { status: Status::InUse, .. }) if start.elapsed() + pause <= wait => {}
+            outcome => return outcome,
+        }
+        thread::sleep(pause);
+        pause = PAUSES.1.min(2 * pause);
+    }
+}
+
 /// Returns the receipt of a reply to an add, or `None` if the entry was held.
 pub fn receipt(ledger: u64, entry: u64, reply: &Reply) -> Option<Receipt> {
     let digest = reply.bytes.as_slice().try_into().ok()?;
@@ -492,42 +585,6 @@ fn bytes_if(reply: Reply, status: Status) -> Option<Vec<u8>> {
     (reply.status == status).then_some(reply.bytes)
 }
 
-/// Returns the number of up to eight bytes, big-endian.
-fn number(bytes: &[u8]) -> u64 {
-    bytes.iter().fold(0, |value, byte| value << 8 | u64::from(*byte))
-}
-
-/// Returns the frame of a request, or `None` if these are not the fields of its call.
-fn encode(call: Call, id: u64, numbers: &[u64], bytes: &[u8]) -> Option<Vec<u8>> {
-    let (count, least, most) = call.layout();
-    if numbers.len() != count || !(least..=most).contains(&bytes.len()) {
-        return None;
-    }
-    let length = 9 + 8 * count + bytes.len();
-    let mut frame = Vec::with_capacity(4 + length);
-    frame.extend_from_slice(&(length as u32).to_be_bytes());
-    frame.extend_from_slice(&id.to_be_bytes());
-    frame.push(call as u8);
-    numbers.iter().for_each(|number| frame.extend_from_slice(&number.to_be_bytes()));
-    frame.extend_from_slice(bytes);
-    Some(frame)
-}
-
-/// Returns the reply whose bytes after the id are these.
-fn decode(body: &[u8]) -> Result<Reply, String> {
-    let (code, fields) = body.split_first().ok_or("no kind")?;
-    let status = Status::of(*code).ok_or_else(|| format!("unknown status {code}"))?;
-    let (count, least, most) = status.layout();
-    let length = fields.len().checked_sub(8 * count).filter(|n| (least..=most).contains(n));
-    match length {
-        Some(length) if status != Status::Page || length % 8 == 0 => {
-            let (numbers, bytes) = fields.split_at(8 * count);
-            Ok(Reply { status, numbers: numbers.chunks_exact(8).map(number).collect(), bytes: bytes.to_vec() })
-        }
-        _ => Err(format!("status {code} with {} bytes of fields", fields.len())),
-    }
-}
-
 /// Returns the id and the other bytes of the next frame, or `None` at the end.
 fn read_frame(input: &mut impl Read) -> io::Result<Option<(u64, Vec<u8>)>> {
     let mut head = [0; 4];
@@ -536,7 +593,7 @@ fn read_frame(input: &mut impl Read) -> io::Result<Option<(u64, Vec<u8>)>> {
     }
     input.read_exact(&mut head[1..])?;
     let length = u32::from_be_bytes(head) as usize;
-    if !(9..=LARGEST).contains(&length) {
+    if !(SHORTEST..=LARGEST).contains(&length) {
         return Err(io::Error::other(format!("frame of {length} bytes")));
     }
     let mut body = vec![0; length];
@@ -553,17 +610,20 @@ fn read_all(shared: &Shared, mut input: impl Read) {
             Ok(None) => break "the server ended".to_string(),
             Err(error) => break error.to_string(),
         };
-        let reply = match decode(&body) {
+        let reply = match Reply::decode(&body) {
             Ok(reply) => reply,
             Err(why) => break why,
         };
         if reply.status.is_end() {
             break format!("{} {:?}", reply.status.text(), reply.numbers);
         }
-        let Some(sender) = shared.lock().waiting.remove(&id) else {
+        let mut session = shared.lock();
+        let Some(sender) = session.waiting.remove(&id) else {
             break format!("reply to no request: {id}");
         };
-        shared.lock().unanswered -= 1;
+        session.unanswered -= 1;
+        session.unflushed.answered(id, reply.status);
+        drop(session);
         shared.answered.notify_one();
         let outcome = if reply.status.is_refusal() {
             Err(Error::Refused { status: reply.status, numbers: reply.numbers })

@@ -1,14 +1,22 @@
 //! Tests the client: usage: test_bookie SERVER DIR. Prints the summary that the tests of all clients print, line for line.
+//! DIR and DIR-ends do not exist or are empty.
 
 #[path = "bookie.rs"]
 mod bookie;
 mod sha256;
+mod test_ends;
 
 use bookie::{Bookie, Call, Error, Pending, Receipt, Status, receipt};
 use sha256::sha256;
 use std::fmt::Write;
+use test_ends::Program;
 
-const COUNT: u64 = 5000;
+/// Entries of each of two ledgers.
+const COUNT: u64 = 2000;
+/// Large entries that are added, and as many again while they are read.
+const LARGE: u64 = 5;
+/// Of ten entries of a log so many are of a ledger that is not deleted.
+const LIVE: [u64; 6] = [0, 1, 1, 5, 6, 9];
 
 fn content(ledger: u64, entry: u64) -> Vec<u8> {
     (0..20 + entry % 100).map(|i| (ledger * 31 + entry * 7 + i) as u8).collect()
@@ -22,12 +30,12 @@ fn whole(ledger: u64, entry: u64, content: &[u8]) -> Vec<u8> {
 fn large_entries(bookie: &Bookie) -> Result<(), Error> {
     let large = |e: u64| -> Vec<u8> { (0..300_000).map(|i| (4 * 31 + e * 7 + i) as u8).collect() };
     let add = |e: u64| bookie.send(Call::Add, &[4, e], &large(e));
-    let first: Vec<Pending> = (0..20).map(add).collect();
+    let first: Vec<Pending> = (0..LARGE).map(add).collect();
     let mut count = 0;
     for pending in first {
         count += usize::from(pending.wait()?.status == Status::Accepted);
     }
-    let sent: Vec<_> = (0..20).map(|e| (bookie.send(Call::Read, &[4, e], &[]), add(20 + e))).collect();
+    let sent: Vec<_> = (0..LARGE).map(|e| (bookie.send(Call::Read, &[4, e], &[]), add(LARGE + e))).collect();
     let mut all = Vec::new();
     for (read, added) in sent {
         all.extend(read.wait()?.bytes);
@@ -92,33 +100,15 @@ fn add_all(bookie: &Bookie) -> Result<Receipt, Error> {
     Ok(two[77])
 }
 
-/// Returns whether the server has every call; else it has none that lists, no attributes and no `stats`.
-fn offers_all(bookie: &Bookie) -> Result<bool, Error> {
-    Ok(refusal(bookie.ledgers())? != "not_offered")
-}
-
-/// Returns the entry ids of a ledger: without a call that lists, those before the first that is not held.
-fn ids_of(bookie: &Bookie, ledger: u64) -> Result<Vec<u64>, Error> {
-    if offers_all(bookie)? {
-        return bookie.entries(ledger);
-    }
-    let mut ids = Vec::new();
-    while bookie.holds(ledger, ids.len() as u64)? {
-        ids.push(ids.len() as u64);
-    }
-    Ok(ids)
-}
-
-fn opened(bookie: &Bookie) -> Result<(), Error> {
-    println!("opened {}{}", bookie.version(), if offers_all(bookie)? { "" } else { " part" });
-    Ok(())
+fn opened(bookie: &Bookie) {
+    println!("opened {}", bookie.version());
 }
 
 /// Returns how many entries the ledgers have, and the SHA-256 of all of them in order.
 fn read_all(bookie: &Bookie, ledgers: &[u64]) -> Result<String, Error> {
     let (mut count, mut all) = (0, Vec::new());
     for ledger in ledgers {
-        let ids = ids_of(bookie, *ledger)?;
+        let ids = bookie.entries(*ledger)?;
         let sent: Vec<Pending> = ids.iter().map(|e| bookie.send(Call::Read, &[*ledger, *e], &[])).collect();
         for pending in sent {
             let reply = pending.wait()?;
@@ -133,7 +123,7 @@ fn lists(bookie: &Bookie) -> Result<(), Error> {
     let last = |ledger| bookie.last_entry(ledger).map(|id| id.map_or("none".to_string(), |id| id.to_string()));
     println!("last {} {} {}", last(1)?, last(2)?, last(9)?);
     println!("ledgers {}", words(&bookie.ledgers()?));
-    println!("read last {}", yes(bookie.read_last(1)? == Some((4999, content(1, 4999)))));
+    println!("read last {}", yes(bookie.read_last(1)? == Some((COUNT - 1, content(1, COUNT - 1)))));
     Ok(())
 }
 
@@ -149,21 +139,60 @@ fn attributes(bookie: &Bookie) -> Result<(), Error> {
 }
 
 fn figures(bookie: &Bookie) -> Result<(), Error> {
-    let found = bookie.stats()?.numbers;
-    let within = found[2] <= found[1] && found[5] <= found[7];
-    println!("figures {} {} {} {} {} {}", found[7], found[3], found[4], yes(within), found[8], found[9]);
+    let found = bookie.stats()?;
+    let within = yes(found.live <= found.bytes && found.durable <= found.front);
+    print!("figures {} {} {} {within} ", found.front, found.cached, found.indexed);
+    println!("{} {}", found.leases, found.failures);
+    Ok(())
+}
+
+/// Seals logs of ten entries of 20 bytes, some of ledger 5 and the others of ledger 6.
+fn fill_logs(bookie: &Bookie) -> Result<(), Error> {
+    for (log, live) in (0..).zip(LIVE) {
+        for e in 0..10 {
+            let ledger = if e < live { 5 } else { 6 };
+            bookie.add(ledger, 100 * log + e, &content(5, 100 * log))?;
+        }
+        bookie.seal()?;
+    }
+    Ok(())
+}
+
+/// Each threshold takes the logs below it, 0 takes none, and entries are read from the copies.
+fn compactions(bookie: &Bookie) -> Result<(), Error> {
+    let compacted = |minor, major| {
+        bookie.compact(minor, major).map(|done| format!("{} {}", done.logs, done.entries))
+    };
+    bookie.seal()?;
+    println!("compact {}", compacted(200, 800)?);
+    fill_logs(bookie)?;
+    bookie.delete(6)?;
+    let before = bookie.stats()?;
+    println!("omitted {}", compacted(0, 0)?);
+    println!("minor {} again {}", compacted(200, 0)?, compacted(200, 0)?);
+    println!("major {} again {}", compacted(0, 800)?, compacted(0, 800)?);
+    let after = bookie.stats()?;
+    let freed = [before.logs.wrapping_sub(after.logs), before.bytes.wrapping_sub(after.bytes)];
+    println!("freed {} live {} {}", words(&freed), before.live, after.live);
+    let refused = [(800, 200), (2000, 0), (0, 200)].map(|(minor, major)| refusal(bookie.compact(minor, major)));
+    let refused: Vec<&str> = refused.into_iter().collect::<Result<_, _>>()?;
+    println!("thresholds {}", refused.join(" "));
+    let mut right = 0;
+    for e in bookie.entries(5)? {
+        right += u64::from(bookie.read(5, e)? == Some(content(5, e - e % 10)));
+    }
+    println!("copied {right}");
     Ok(())
 }
 
 fn entries_and_reads(bookie: &Bookie) -> Result<(), Error> {
-    opened(bookie)?;
+    opened(bookie);
     let receipt = add_all(bookie)?;
     bookie.flush()?;
     println!("read {}", read_all(bookie, &[1, 2])?);
-    if offers_all(bookie)? {
-        lists(bookie)?;
-    }
-    println!("holds {} {} {}", yes(bookie.holds(1, 4999)?), yes(bookie.holds(1, 5000)?), yes(bookie.holds(9, 0)?));
+    lists(bookie)?;
+    let holds = [bookie.holds(1, COUNT - 1)?, bookie.holds(1, COUNT)?, bookie.holds(9, 0)?].map(yes);
+    println!("holds {}", holds.join(" "));
     println!("read back {}", yes(bookie.read_back(&receipt)? == Some(content(2, 77))));
     println!("forged {}", refusal(bookie.read_back(&Receipt { entry: 78, ..receipt }))?);
     let again = bookie.add(1, 0, b"other")?.map_or("none", |_| "accepted");
@@ -175,20 +204,17 @@ fn entries_and_reads(bookie: &Bookie) -> Result<(), Error> {
 fn ledgers(bookie: &Bookie) -> Result<(), Error> {
     let fenced = [bookie.fence(1)?, bookie.fence(1)?].map(yes);
     println!("fenced {}", fenced.join(" "));
-    print!("add {} ", refusal(bookie.add(1, 5000, b"x"))?);
-    println!("recovery {}", refusal(bookie.add_recovery(1, 5000, b"x"))?);
+    print!("add {} ", refusal(bookie.add(1, COUNT, b"x"))?);
+    println!("recovery {}", refusal(bookie.add_recovery(1, COUNT, b"x"))?);
     println!("negative {}", refusal(bookie.add(1 << 63, 0, b"x"))?);
-    if offers_all(bookie)? {
-        attributes(bookie)?;
-        figures(bookie)?;
-    }
+    attributes(bookie)?;
+    figures(bookie)?;
     print!("deleted {} {} ", bookie.delete(2)?, refusal(bookie.delete(2))?);
     println!("{} {}", refusal(bookie.read(2, 0))?, refusal(bookie.add(2, 0, b"x"))?);
     println!("holds {}", yes(bookie.holds(2, 0)?));
-    bookie.seal()?;
-    println!("compact {} {}", refusal(bookie.compact(200, 800))?, refusal(bookie.compact(2000, 0))?);
+    compactions(bookie)?;
     large_entries(bookie)?;
-    println!("durable {}", yes(bookie.checkpoint()? >= 10001));
+    println!("durable {}", yes(bookie.checkpoint()? > 2 * COUNT));
     bookie.seal().map(drop)
 }
 
@@ -215,13 +241,12 @@ fn killed_session(bookie: &Bookie) -> Result<(), Error> {
 }
 
 fn last_session(bookie: &Bookie) -> Result<(), Error> {
-    opened(bookie)?;
-    println!("read {}", read_all(bookie, &[1])?);
-    if offers_all(bookie)? {
-        let key = bookie.master_key(1)?.unwrap_or_default();
-        println!("fenced {} {} {}", yes(bookie.is_fenced(1)?), refusal(bookie.read(2, 0))?, hex(&key));
-    }
-    let found = ids_of(bookie, 3)?;
+    opened(bookie);
+    println!("read {}", read_all(bookie, &[1, 5])?);
+    let attributes = [bookie.master_key(1)?, bookie.explicit_lac(1)?].map(|it| hex(&it.unwrap_or_default()));
+    print!("fenced {} {} ", yes(bookie.is_fenced(1)?), refusal(bookie.read(2, 0))?);
+    println!("{}", attributes.join(" "));
+    let found = bookie.entries(3)?;
     let published = found.iter().take(1000).copied().eq(0..1000);
     let mut right = true;
     for e in found {
@@ -235,15 +260,25 @@ fn last_session(bookie: &Bookie) -> Result<(), Error> {
 
 fn main() -> Result<(), Error> {
     let arguments: Vec<String> = std::env::args().collect();
-    let [_, server, directory] = arguments.as_slice() else {
-        eprintln!("usage: test_bookie SERVER DIR");
-        std::process::exit(2);
-    };
-    let open = || Bookie::open(server, &[directory]);
-    let first = open()?;
-    entries_and_reads(&first)?;
-    ledgers(&first)?;
-    first.close()?;
-    killed_session(&open()?)?;
-    last_session(&open()?)
+    let arguments: Vec<&str> = arguments.iter().map(String::as_str).collect();
+    match arguments[1..] {
+        [server, directory] => {
+            let open = || Bookie::open(server, &[directory]);
+            let first = open()?;
+            entries_and_reads(&first)?;
+            ledgers(&first)?;
+            first.close()?;
+            killed_session(&open()?)?;
+            last_session(&open()?)?;
+            Program { server, directory: &format!("{directory}-ends") }.ends()
+        }
+        [server, directory, role, ledger] => {
+            let (program, ledger) = (Program { server, directory }, ledger.parse().expect("a ledger"));
+            if role == "closed" { program.play_closed(ledger) } else { program.play_signalled(ledger) }
+        }
+        _ => {
+            eprintln!("usage: test_bookie SERVER DIR");
+            std::process::exit(2);
+        }
+    }
 }

@@ -2,9 +2,13 @@ package org.dabchickrug.bookie;
 
 import java.io.BufferedInputStream;
 import java.io.DataInputStream;
+import java.io.File;
 import java.io.IOException;
 import java.io.OutputStream;
 import java.nio.ByteBuffer;
+import java.nio.file.Path;
+import java.time.Duration;
+import java.util.ArrayList;
 import java.util.HashMap;
 import java.util.List;
 import java.util.Map;
@@ -13,17 +17,28 @@ import java.util.concurrent.ExecutionException;
 import java.util.concurrent.Semaphore;
 
 /**
- * A session with {@code bk_serve DIR}: one directory, served by a child process.
+ * A session with {@code bk_serve DIR}: one directory, served by a child process, or by a daemon ({@link #connect}).
  *
  * <p>Its methods may be called from any thread. {@link #send} sends a request ahead and returns the future of its reply; every
  * other method waits. The reader thread completes futures: what depends on one must not block in it. A future completes with
  * {@link RefusedException} if the server refused the request, and with {@link SessionEndedException} if the session ended before
- * the reply; whether the request took effect is then open.
+ * the reply; whether the request took effect is then open. What was sent is carried out: to cancel a future changes nothing of it.
+ *
+ * <p>{@code accepted} is worth memory: what is not flushed is lost if the server is killed. README.md, Signals, says what ends it.
  *
  * <p>No native code is loaded. If either process dies, the other stays whole.
  */
 public final class Bookie implements AutoCloseable {
     private static final ByteBuffer NONE = ByteBuffer.allocate(0);
+    /** How long {@link #open(List)} tries to open a directory that is in use. */
+    public static final Duration WAIT = Duration.ofSeconds(10);
+    // The first pause between two tries, each twice the one before, and the longest, in milliseconds.
+    private static final long PAUSE = 50;
+    private static final long LONGEST = 1000;
+    // Runs a program that ignores the signals that end the group of this process.
+    private static final List<String> IGNORING = List.of("/bin/sh", "-c", "trap '' HUP INT QUIT TERM; exec \"$@\"", "sh");
+    /** The program {@code setsid}, or null. */
+    static String setsid = onPath("setsid");
 
     private final Process process;
     private final OutputStream out;
@@ -34,12 +49,70 @@ public final class Bookie implements AutoCloseable {
     private final Semaphore room = new Semaphore(1);
     private final long version;
     private final long pageLimit;
+    private final Unflushed unflushed = new Unflushed();
     private long lastId;
     private String why;
+    private boolean isClosed;
 
-    /** Starts the server, {@code command} being the program and its arguments, and opens its directory. */
-    public Bookie(List<String> command) throws IOException {
-        process = new ProcessBuilder(command).redirectError(ProcessBuilder.Redirect.INHERIT).start();
+    /**
+     * Starts the server, {@code command} being the program and its arguments, and opens its directory. While another process has
+     * the directory, as a predecessor that still flushes, it is opened again for {@link #WAIT}; then the refusal is
+     * {@code IN_USE}.
+     *
+     * <p>A signal to the group of this process, as ^C sends, does not end the server before this client closes: it is started by
+     * {@code setsid} in a session of its own. Where that program is not on the path, it is started by {@code /bin/sh} and ignores
+     * SIGHUP, SIGINT, SIGQUIT and SIGTERM, so that SIGKILL alone ends it early.
+     */
+    public static Bookie open(List<String> command) throws IOException {
+        return open(command, WAIT);
+    }
+
+    /** The same with another time, which may be zero. */
+    public static Bookie open(List<String> command, Duration wait) throws IOException {
+        return openWithin(wait, () -> start(command), command.get(0));
+    }
+
+    /**
+     * Opens a session with a daemon (../../tools/daemon) by the path of its socket. While the daemon has as many clients as it
+     * takes, it is tried again for {@link #WAIT}; then the refusal is {@code IN_USE}.
+     *
+     * <p>The calls are the same. {@code close} flushes and ends this session, not the server, and so does {@code kill}, which does
+     * not wait for its flush. The exit status is 0, and {@code pid} throws {@link UnsupportedOperationException}.
+     */
+    public static Bookie connect(Path socket) throws IOException {
+        return openWithin(WAIT, () -> new Connection(socket), socket.toString());
+    }
+
+    /** Starts a server, or connects to one. */
+    private interface Starter {
+        Process start() throws IOException;
+    }
+
+    private static Bookie openWithin(Duration wait, Starter starter, String name) throws IOException {
+        long until = System.nanoTime() + wait.toNanos();
+        for (long pause = PAUSE; ; pause = Math.min(2 * pause, LONGEST)) {
+            try {
+                return new Bookie(starter.start(), name);
+            } catch (RefusedException e) {
+                if (e.status() != Status.IN_USE || System.nanoTime() + pause * 1_000_000 > until) throw e;
+            }
+            try {
+                Thread.sleep(pause);
+            } catch (InterruptedException e) {
+                Thread.currentThread().interrupt();
+                throw new IOException("interrupted", e);
+            }
+        }
+    }
+
+    private static Process start(List<String> command) throws IOException {
+        List<String> words = new ArrayList<>(setsid != null ? List.of(setsid) : IGNORING);
+        words.addAll(command);
+        return new ProcessBuilder(words).redirectError(ProcessBuilder.Redirect.INHERIT).start();
+    }
+
+    private Bookie(Process started, String name) throws IOException {
+        process = started;
         out = process.getOutputStream();
         reader = new Thread(this::readAll, "bookie replies");
         reader.setDaemon(true);
@@ -51,8 +124,26 @@ public final class Bookie implements AutoCloseable {
             room.release((int) Math.min(welcome.numbers()[2], 1 << 20) - 1);
         } catch (IOException | RuntimeException e) {
             kill();
+            // What setsid and the shell end with if there is no such program, or it cannot be run.
+            boolean isAbsent = e instanceof SessionEndedException && (exitStatus() == 126 || exitStatus() == 127);
+            if (isAbsent) throw new IOException("cannot run " + name, e);
             throw e;
         }
+    }
+
+    /** Returns the path of a program, or null. */
+    private static String onPath(String program) {
+        String path = System.getenv("PATH");
+        for (String directory : (path == null ? "" : path).split(File.pathSeparator)) {
+            File file = new File(directory, program);
+            if (!directory.isEmpty() && file.canExecute()) return file.getPath();
+        }
+        return null;
+    }
+
+    /** Returns the process id of the server. */
+    public long pid() {
+        return process.pid();
     }
 
     public long version() {
@@ -80,6 +171,7 @@ public final class Bookie implements AutoCloseable {
                     }
                     lastId += 1;
                     waiting.put(lastId, future);
+                    unflushed.sent(lastId, call);
                 }
             }
             if (end != null) {
@@ -125,6 +217,7 @@ public final class Bookie implements AutoCloseable {
                 CompletableFuture<Reply> future;
                 synchronized (this) {
                     future = waiting.remove(frame.id());
+                    unflushed.answered(frame.id(), reply.status());
                 }
                 if (future == null) {
                     end = "reply to no request: " + frame.id();
@@ -265,14 +358,19 @@ public final class Bookie implements AutoCloseable {
         return call(Call.CHECKPOINT, NONE).numbers()[0];
     }
 
-    /** Compacts the logs whose live share is below a threshold, in thousandths; 0 omits a kind. Returns the reply {@code COMPACTED}. */
-    public Reply compact(long minor, long major) throws IOException {
-        return call(Call.COMPACT, NONE, minor, major);
+    /**
+     * Compacts the logs whose live share is below the server's thresholds. {@code minor} and {@code major} are these in
+     * thousandths, 200 and 800 unless the server has others. 0 omits a kind, and any other number is refused
+     * ({@code Status.OUT_OF_RANGE}).
+     */
+    public Compacted compact(long minor, long major) throws IOException {
+        long[] numbers = call(Call.COMPACT, NONE, minor, major).numbers();
+        return new Compacted(numbers[0], numbers[1]);
     }
 
-    /** Returns the reply {@code FIGURES}. */
-    public Reply stats() throws IOException {
-        return call(Call.STATS, NONE);
+    /** Returns the store in numbers. */
+    public Figures stats() throws IOException {
+        return Figures.of(call(Call.STATS, NONE).numbers());
     }
 
     /** Flushes and seals the open log. Returns its id, or -1 if no log is open. */
@@ -283,23 +381,38 @@ public final class Bookie implements AutoCloseable {
 
     // ---- end
 
-    /** Ends the session in order: everything that was accepted is durable then. If the flush fails, the session ends too, and
-     * the exception is why. A second close does nothing. */
+    /** Returns how many entries were accepted that may be in memory alone: no flush that was sent later is answered. */
+    public synchronized long unflushed() {
+        return unflushed.count();
+    }
+
+    /**
+     * Flushes and ends the session. If it returns, everything that was accepted is durable. If the flush fails, the session ends
+     * too, and {@link RefusedException} is why. If the session had ended before, or ends meanwhile, it throws
+     * {@link SessionEndedException}, which says how many entries may be lost. After {@code close} or {@code kill} a call does
+     * nothing.
+     */
     @Override
     public void close() throws IOException {
         boolean isOver;
         synchronized (this) {
-            isOver = why != null;
+            isOver = isClosed;
+            isClosed = true;
         }
         try {
             if (!isOver) call(Call.CLOSE, NONE);
+        } catch (SessionEndedException e) {
+            throw new SessionEndedException(e.getMessage() + "; accepted and not flushed: " + unflushed());
         } finally {
             end();
         }
     }
 
-    /** Ends the server at once, as a crash does. */
+    /** Ends the server at once, as a crash does. What was accepted and not flushed is lost. */
     public void kill() {
+        synchronized (this) {
+            isClosed = true;
+        }
         process.destroyForcibly();
         end();
     }

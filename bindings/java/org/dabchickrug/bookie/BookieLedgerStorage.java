@@ -26,7 +26,7 @@ public final class BookieLedgerStorage implements AutoCloseable {
 
     /** For {@code initialize} and {@code start}: starts {@code bk_serve DIR} and opens the directory. */
     public BookieLedgerStorage(List<String> command) throws IOException {
-        bookie = new Bookie(command);
+        bookie = Bookie.open(command);
     }
 
     /** No ledger, or no entry of it: {@code Bookie.NoLedgerException}, {@code Bookie.NoEntryException}. */
@@ -38,7 +38,7 @@ public final class BookieLedgerStorage implements AutoCloseable {
         }
     }
 
-    /** For {@code shutdown()}: flushes and ends the server. */
+    /** For {@code shutdown()}: flushes and ends the server. If it returns, everything that was added is durable. */
     @Override
     public void close() throws IOException {
         bookie.close();
@@ -74,7 +74,10 @@ public final class BookieLedgerStorage implements AutoCloseable {
         bookie.setMasterKey(ledgerId, ByteBuffer.wrap(masterKey));
     }
 
-    /** {@code byte[] readMasterKey(long)}: {@link NotFoundException} for {@code Bookie.NoLedgerException}. */
+    /**
+     * {@code byte[] readMasterKey(long)}: {@link NotFoundException} for {@code Bookie.NoLedgerException} if the ledger has no key.
+     * A deleted ledger is refused ({@code Status.DELETED}).
+     */
     public byte[] readMasterKey(long ledgerId) throws IOException {
         return bytes(found(bookie.masterKey(ledgerId), "ledger " + ledgerId));
     }
@@ -111,7 +114,8 @@ public final class BookieLedgerStorage implements AutoCloseable {
 
     /**
      * {@code ByteBuf getEntry(long, long)}: the whole entry, with its ids. -1 ({@code BookieProtocol.LAST_ADD_CONFIRMED}) asks for
-     * the entry with the greatest id. {@link NotFoundException} for {@code Bookie.NoEntryException}.
+     * the entry with the greatest id. {@link NotFoundException} for {@code Bookie.NoEntryException}. A deleted ledger is refused
+     * ({@code Status.DELETED}), there and in the calls below that read.
      */
     public ByteBuffer getEntry(long ledgerId, long entryId) throws IOException {
         Reply reply = entryId == -1 ? bookie.readLast(ledgerId) : Bookie.await(bookie.send(Call.READ, ByteBuffer.allocate(0), ledgerId, entryId));
@@ -159,7 +163,10 @@ public final class BookieLedgerStorage implements AutoCloseable {
         return bookie.explicitLac(ledgerId);
     }
 
-    /** {@code void forceGC(boolean, boolean)}: compacts with these thresholds in thousandths; 0 omits a kind. */
+    /**
+     * {@code void forceGC(boolean, boolean)}: compacts. Each number is the server's threshold in thousandths, 800 and 200 unless it
+     * has others, or 0, which omits the kind; any other is refused ({@code Status.OUT_OF_RANGE}).
+     */
     public void forceGC(long majorThousandths, long minorThousandths) throws IOException {
         bookie.compact(minorThousandths, majorThousandths);
     }

@@ -38,7 +38,7 @@ public enum Status {
     DURABLE(48, 1, 0, 0),
     /** Fields: logs, entries. */
     COMPACTED(49, 2, 0, 0),
-    /** Fields: logs, bytes, live, cached, indexed, durable, next_log, front. */
+    /** Fields: logs, bytes, live, cached, indexed, durable, next_log, front, leases, failures. */
     FIGURES(50, 10, 0, 0),
     /** Fields: log. */
     SEALED(51, 1, 0, 0),
@@ -94,6 +94,7 @@ public enum Status {
     OUT_OF_RANGE(86, 0, 0, 0),
     /** No fields. */
     NO_THREAD(87, 0, 0, 0),
+    /** No fields. */
     NOT_OFFERED(88, 0, 0, 0),
     /** No fields. */
     NO_HELLO(96, 0, 0, 0),

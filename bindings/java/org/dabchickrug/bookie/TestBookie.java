@@ -9,14 +9,22 @@ import java.util.List;
 import java.util.PrimitiveIterator;
 import java.util.concurrent.CompletableFuture;
 
-/** Tests the client: usage: TestBookie SERVER DIR. Prints the summary that the tests of all clients print, line for line. */
+/**
+ * Tests the client: usage: TestBookie SERVER DIR. Prints the summary that the tests of all clients print, line for line. DIR and
+ * DIR-ends do not exist or are empty.
+ */
 public final class TestBookie {
-    private static final int COUNT = 5000;
-    private static final ByteBuffer X = ByteBuffer.wrap(new byte[] {'x'});
+    /** Entries of each of two ledgers. */
+    private static final int COUNT = 2000;
+    /** Large entries that are added, and as many again while they are read. */
+    private static final int LARGE = 5;
+    /** Of ten entries of a log so many are of a ledger that is not deleted. */
+    private static final int[] LIVE = {0, 1, 1, 5, 6, 9};
+    static final ByteBuffer X = ByteBuffer.wrap(new byte[] {'x'});
 
     private TestBookie() {}
 
-    private interface Asking {
+    interface Asking {
         Object ask() throws IOException;
     }
 
@@ -39,11 +47,11 @@ public final class TestBookie {
     /** Large adds and large reads at once, all sent ahead: neither side may wait for the other. */
     private static void largeEntries(Bookie bookie) throws IOException {
         List<CompletableFuture<Reply>> added = new ArrayList<>(), sent = new ArrayList<>();
-        for (int e = 0; e < 20; e++) added.add(bookie.sendAdd(4, e, large(e)));
+        for (int e = 0; e < LARGE; e++) added.add(bookie.sendAdd(4, e, large(e)));
         for (CompletableFuture<Reply> future : added) Bookie.await(future);
-        for (int e = 0; e < 20; e++) {
+        for (int e = 0; e < LARGE; e++) {
             sent.add(bookie.send(Call.READ, ByteBuffer.allocate(0), 4, e));
-            added.add(bookie.sendAdd(4, 20 + e, large(20 + e)));
+            added.add(bookie.sendAdd(4, LARGE + e, large(LARGE + e)));
         }
         MessageDigest digest = sha256();
         for (CompletableFuture<Reply> future : sent) digest.update(Bookie.await(future).bytes());
@@ -66,7 +74,7 @@ public final class TestBookie {
         }
     }
 
-    private static void print(Object... words) {
+    static void print(Object... words) {
         StringBuilder line = new StringBuilder();
         for (Object word : words) {
             if (line.length() > 0) line.append(' ');
@@ -76,7 +84,7 @@ public final class TestBookie {
     }
 
     /** Returns the name of the refusal of a call, or {@code accepted}. */
-    private static String refusal(Asking asking) throws IOException {
+    static String refusal(Asking asking) throws IOException {
         try {
             asking.ask();
             return "accepted";
@@ -96,22 +104,13 @@ public final class TestBookie {
         return HexFormat.of().formatHex(copy);
     }
 
-    /** Returns whether the server has every call; else it has none that lists, no attributes and no stats. */
-    private static boolean offersAll(Bookie bookie) throws IOException {
-        return !refusal(() -> bookie.ledgers(0)).equals("not_offered");
+    private static void opened(Bookie bookie) {
+        print("opened", bookie.version());
     }
 
-    private static void opened(Bookie bookie) throws IOException {
-        print("opened", offersAll(bookie) ? bookie.version() : bookie.version() + " part");
-    }
-
-    /** Returns the entry ids of a ledger: without a call that lists, those before the first that is not held. */
-    private static List<Long> all(Bookie bookie, long ledgerId) throws IOException {
+    /** Returns the entry ids of a ledger. */
+    static List<Long> all(Bookie bookie, long ledgerId) throws IOException {
         List<Long> ids = new ArrayList<>();
-        if (!offersAll(bookie)) {
-            while (bookie.holds(ledgerId, ids.size())) ids.add((long) ids.size());
-            return ids;
-        }
         for (long[] page = bookie.entries(ledgerId, 0); page.length > 0; page = bookie.entries(ledgerId, page[page.length - 1] + 1))
             for (long id : page) ids.add(id);
         return ids;
@@ -191,7 +190,7 @@ public final class TestBookie {
         print("last", bookie.lastEntry(1), bookie.lastEntry(2), bookie.lastEntry(9) < 0 ? null : "some");
         print("ledgers", ledgers(bookie));
         Reply last = bookie.readLast(1);
-        print("read last", last.numbers()[1] == 4999 && has(last.bytes(), 1, 4999));
+        print("read last", last.numbers()[1] == COUNT - 1 && has(last.bytes(), 1, COUNT - 1));
     }
 
     private static void attributes(Bookie bookie) throws IOException {
@@ -204,9 +203,44 @@ public final class TestBookie {
     }
 
     private static void figures(Bookie bookie) throws IOException {
-        long[] found = bookie.stats().numbers();
-        boolean within = found[2] <= found[1] && found[5] <= found[7];
-        print("figures", found[7], found[3], found[4], within, found[8], found[9]);
+        Figures found = bookie.stats();
+        boolean within = found.live() <= found.bytes() && found.durable() <= found.front();
+        print("figures", found.front(), found.cached(), found.indexed(), within, found.leases(), found.failures());
+    }
+
+    /** Seals logs of ten entries of 20 bytes, some of ledger 5 and the others of ledger 6. */
+    private static void fillLogs(Bookie bookie) throws IOException {
+        for (int log = 0; log < LIVE.length; log++) {
+            for (int e = 0; e < 10; e++) bookie.add(e < LIVE[log] ? 5 : 6, 100L * log + e, buffer(5, 100L * log));
+            bookie.seal();
+        }
+    }
+
+    private static String compacted(Bookie bookie, long minor, long major) throws IOException {
+        Compacted done = bookie.compact(minor, major);
+        return done.logs() + " " + done.entries();
+    }
+
+    /** Each threshold takes the logs below it, 0 takes none, and entries are read from the copies. */
+    private static void compactions(Bookie bookie) throws IOException {
+        bookie.seal();
+        print("compact", compacted(bookie, 200, 800));
+        fillLogs(bookie);
+        bookie.delete(6);
+        Figures before = bookie.stats();
+        print("omitted", compacted(bookie, 0, 0));
+        print("minor", compacted(bookie, 200, 0), "again", compacted(bookie, 200, 0));
+        print("major", compacted(bookie, 0, 800), "again", compacted(bookie, 0, 800));
+        Figures after = bookie.stats();
+        print("freed", before.logs() - after.logs(), before.bytes() - after.bytes(), "live", before.live(), after.live());
+        print(
+                "thresholds",
+                refusal(() -> bookie.compact(800, 200)),
+                refusal(() -> bookie.compact(2000, 0)),
+                refusal(() -> bookie.compact(0, 200)));
+        int right = 0;
+        for (long e : all(bookie, 5)) right += has(bookie.read(5, e), 5, e - e % 10) ? 1 : 0;
+        print("copied", right);
     }
 
     private static void firstSession(Bookie bookie) throws IOException, InterruptedException {
@@ -214,24 +248,21 @@ public final class TestBookie {
         Receipt receipt = addAll(bookie).get(77);
         bookie.flush();
         print("read", readAll(bookie, 1, 2));
-        if (offersAll(bookie)) lists(bookie);
-        print("holds", bookie.holds(1, 4999), bookie.holds(1, 5000), bookie.holds(9, 0));
+        lists(bookie);
+        print("holds", bookie.holds(1, COUNT - 1), bookie.holds(1, COUNT), bookie.holds(9, 0));
         print("read back", has(bookie.readBack(receipt), 2, 77));
         print("forged", refusal(() -> bookie.readBack(new Receipt(receipt.number(), 2, 78, receipt.digest()))));
         print("again", bookie.add(1, 0, X), has(bookie.read(1, 0), 1, 0), bookie.read(9, 0));
         print("fenced", bookie.fence(1), bookie.fence(1));
-        print("add", refusal(() -> bookie.add(1, 5000, X)), "recovery", refusal(() -> bookie.addRecovery(1, 5000, X)));
+        print("add", refusal(() -> bookie.add(1, COUNT, X)), "recovery", refusal(() -> bookie.addRecovery(1, COUNT, X)));
         print("negative", refusal(() -> bookie.add(Long.MIN_VALUE, 0, X)));
-        if (offersAll(bookie)) {
-            attributes(bookie);
-            figures(bookie);
-        }
+        attributes(bookie);
+        figures(bookie);
         print("deleted", bookie.delete(2), refusal(() -> bookie.delete(2)), refusal(() -> bookie.read(2, 0)), refusal(() -> bookie.add(2, 0, X)));
         print("holds", bookie.holds(2, 0));
-        bookie.seal();
-        print("compact", refusal(() -> bookie.compact(200, 800)), refusal(() -> bookie.compact(2000, 0)));
+        compactions(bookie);
         largeEntries(bookie);
-        print("durable", bookie.checkpoint() >= 10001);
+        print("durable", bookie.checkpoint() > 2 * COUNT);
         bookie.seal();
     }
 
@@ -257,12 +288,11 @@ public final class TestBookie {
         }
     }
 
-    /** Returns whether the server has every call. */
-    private static boolean lastSession(Bookie bookie) throws IOException {
+    private static void lastSession(Bookie bookie) throws IOException {
         opened(bookie);
-        print("read", readAll(bookie, 1));
-        boolean offersAll = offersAll(bookie);
-        if (offersAll) print("fenced", bookie.isFenced(1), refusal(() -> bookie.read(2, 0)), hex(bookie.masterKey(1)));
+        print("read", readAll(bookie, 1, 5));
+        String key = hex(bookie.masterKey(1)), lac = hex(bookie.explicitLac(1));
+        print("fenced", bookie.isFenced(1), refusal(() -> bookie.read(2, 0)), key, lac);
         List<Long> found = all(bookie, 3);
         boolean isPublished = found.size() >= 1000, isRight = true;
         for (int e = 0; isPublished && e < 1000; e++) isPublished = found.get(e) == e;
@@ -271,7 +301,6 @@ public final class TestBookie {
         bookie.close();
         bookie.close();
         print("closed", bookie.exitStatus(), bookie.exitStatus());
-        return offersAll;
     }
 
     /** The same directory once more, in the form of BookKeeper's interface. Prints nothing if all is right. */
@@ -287,32 +316,52 @@ public final class TestBookie {
             storage.setMasterKey(7, new byte[] {1, 2});
             check(storage.readMasterKey(7).length == 2 && storage.getExplicitLac(7) == null);
             PrimitiveIterator.OfLong ids = storage.getActiveLedgersInRange(2, 8);
-            check(ids.nextLong() == 3 && ids.nextLong() == 7 && !ids.hasNext());
+            check(ids.nextLong() == 3 && ids.nextLong() == 5 && ids.nextLong() == 7 && !ids.hasNext());
             ids = storage.getListOfEntriesOfLedger(1);
-            for (long e = 0; e <= 5000; e++) check(ids.nextLong() == e);
+            for (long e = 0; e <= COUNT; e++) check(ids.nextLong() == e);
             check(!ids.hasNext());
             storage.deleteLedger(7);
             storage.deleteLedger(7);
+            check(refusal(() -> storage.readMasterKey(7)).equals("deleted") && refusal(() -> storage.getEntry(7, 0)).equals("deleted"));
             check(storage.checkpoint() > 0);
             try {
                 storage.getEntry(1, 1 << 20);
                 check(false);
             } catch (BookieLedgerStorage.NotFoundException e) {
                 storage.forceGC(800, 200);
+                check(refusal(() -> force(storage, 200, 800)).equals("out_of_range"));
             }
         }
     }
 
-    private static void check(boolean is) {
+    private static Object force(BookieLedgerStorage storage, long major, long minor) throws IOException {
+        storage.forceGC(major, minor);
+        return null;
+    }
+
+    /** Records print what they have. Prints nothing if all is right. */
+    private static void asText() {
+        Receipt receipt = new Receipt(1, 2, 3, new byte[] {(byte) 0xab});
+        check(receipt.toString().equals("Receipt[number=1, ledgerId=2, entryId=3, digest=ab]"));
+        check(receipt.equals(new Receipt(1, 2, 3, new byte[] {(byte) 0xab})));
+        Reply reply = new Reply(Status.FLUSHED, new long[] {7}, ByteBuffer.allocate(0));
+        check(reply.toString().equals("Reply[status=flushed, numbers=[7], bytes=0]"));
+        check(reply.hashCode() == new Reply(Status.FLUSHED, new long[] {7}, ByteBuffer.allocate(0)).hashCode());
+    }
+
+    static void check(boolean is) {
         if (!is) throw new AssertionError();
     }
 
     public static void main(String[] args) throws Exception {
         List<String> command = List.of(args[0], args[1]);
-        try (Bookie bookie = new Bookie(command)) {
+        try (Bookie bookie = Bookie.open(command)) {
             firstSession(bookie);
         }
-        killedSession(new Bookie(command));
-        if (lastSession(new Bookie(command))) asLedgerStorage(command);
+        killedSession(Bookie.open(command));
+        lastSession(Bookie.open(command));
+        asLedgerStorage(command);
+        asText();
+        new TestEnds(List.of(args[0], args[1] + "-ends")).ends();
     }
 }
