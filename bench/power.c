@@ -1,5 +1,5 @@
-// Leaves out syncs of a program, reports what it has read, and kills it at a call: for bookie-power, which
-// compiles it and preloads it in the guest.
+// Leaves out syncs of a program, reports what it has read, lets a call fail, and kills it at a call: for
+// bookie-power, which compiles it and preloads it in the guest.
 //
 //   POWER_LEAVE_OUT  the syncs that are left out, each between commas, as ,opening,folder,
 //                      opening   of a file that is open to read alone, as an opening and a roll have it
@@ -13,6 +13,7 @@
 //   POWER_FROM       the first entry that is reported
 //   POWER_FOLDER     the folder, an absolute path: calls that change files in it are counted
 //   POWER_KILL_AT    the process ends before this call, from 1; 0: never
+//   POWER_FAIL_AT    this write or sync in the folder, from 1, fails with EIO, and does nothing; 0: none
 #define _GNU_SOURCE
 #include <errno.h>
 #include <fcntl.h>
@@ -31,7 +32,7 @@ enum { MARKER = 900, RECORD = 26, SECTOR = 512 };
 static const char WORD[] = "marker", MANIFEST[] = ".manifest";
 
 static const char *left_out, *folder;
-static unsigned long kill_at, count;
+static unsigned long kill_at, fail_at, count, faults;
 static uint64_t next_marker;
 static int messages = -1;
 
@@ -44,6 +45,7 @@ __attribute__((constructor)) static void begin(void) {
     left_out = getenv("POWER_LEAVE_OUT");
     folder = getenv("POWER_FOLDER");
     kill_at = number("POWER_KILL_AT");
+    fail_at = number("POWER_FAIL_AT");
     next_marker = number("POWER_FROM");
     const char *device = getenv("POWER_MESSAGES");
     if (device) {
@@ -60,19 +62,26 @@ static void name_of(int fd, char *path) {
     path[length > 0 ? length : 0] = 0;
 }
 
+static int is_inside(const char *path) { return folder && !strncmp(path, folder, strlen(folder)); }
+
 // Counts a call that changes files, and ends the process at the one that was asked for.
 static void change(const char *path) {
-    if (folder && !strncmp(path, folder, strlen(folder)) && __atomic_add_fetch(&count, 1, __ATOMIC_RELAXED) == kill_at) {
+    if (is_inside(path) && __atomic_add_fetch(&count, 1, __ATOMIC_RELAXED) == kill_at) {
         syscall(SYS_kill, getpid(), SIGKILL);
         for (;;)
             pause();
     }
 }
 
-static void change_fd(int fd) {
+// Counts a write or a sync. Returns whether the device is to fail in it.
+static int fails(int fd) {
     char path[PATH_MAX];
     name_of(fd, path);
     change(path);
+    if (!is_inside(path) || __atomic_add_fetch(&faults, 1, __ATOMIC_RELAXED) != fail_at)
+        return 0;
+    errno = EIO;
+    return 1;
 }
 
 // ---- syncs
@@ -90,7 +99,8 @@ static const char *kind_of(int fd) {
 }
 
 static int sync_by(long call, int fd) {
-    change_fd(fd);
+    if (fails(fd))
+        return -1;
     if (left_out && (strstr(left_out, ",all,") || strstr(left_out, kind_of(fd))))
         return 0;
     return syscall(call, fd);
@@ -135,17 +145,17 @@ ssize_t pread(int fd, void *bytes, size_t length, off_t from) {
 // ---- other calls that change files
 
 ssize_t write(int fd, const void *bytes, size_t length) {
-    change_fd(fd);
-    return syscall(SYS_write, fd, bytes, length);
+    return fails(fd) ? -1 : syscall(SYS_write, fd, bytes, length);
 }
 
 ssize_t pwrite(int fd, const void *bytes, size_t length, off_t from) {
-    change_fd(fd);
-    return syscall(SYS_pwrite64, fd, bytes, length, from);
+    return fails(fd) ? -1 : syscall(SYS_pwrite64, fd, bytes, length, from);
 }
 
 int ftruncate(int fd, off_t length) {
-    change_fd(fd);
+    char path[PATH_MAX];
+    name_of(fd, path);
+    change(path);
     return syscall(SYS_ftruncate, fd, length);
 }
 

@@ -6,11 +6,15 @@
 //
 //   say WORD..                     reports words, at this moment of the data disk
 //   send_logs WORD..               reports the directory of logs as an archive, an empty one if it is not there
-//   run NUMBER FROM KILL_AT WORD.. runs the program with /tmp/steps, between two reports: begin NUMBER, and end NUMBER STATUS
-//                                  with its output, a line `--` and its error output; ends with its status
+//   run NUMBER FROM KILL_AT FAIL_AT WORD..
+//                                  runs the program with /tmp/steps, between two reports: begin NUMBER, and end NUMBER
+//                                  STATUS with its output, a line `--` and its error output; ends with its status. With
+//                                  the first word `serve` it runs the server with the others, whose client is
+//                                  power_client.c
 //
 // /dev/vda is the data disk, /dev/vdb takes messages, /dev/vdc has the next job.
 #define _GNU_SOURCE
+#include "power_guest.h"
 #include <dirent.h>
 #include <errno.h>
 #include <fcntl.h>
@@ -27,19 +31,14 @@
 enum { SECTOR = 512, BLOCK = 4096, DATA_AT = 1 << 20, JOB_AT = 16 << 20, TEXT_AT = 32 << 20, MOST = 64 << 20 };
 static const char LOGS[] = "/mnt/logs";
 
-static void stop(const char *why) {
+void stop(const char *why) {
     fprintf(stderr, "bookie-power: %s: %s\n", why, strerror(errno));
     exit(99);
 }
 
 // ---- messages
 
-struct bytes {
-    char *at;
-    size_t length;
-};
-
-static struct bytes area(void) {
+struct bytes area(void) {
     // Pages are made when they are written to.
     static char *all;
     if (!all && posix_memalign((void **)&all, BLOCK, MOST))
@@ -47,8 +46,7 @@ static struct bytes area(void) {
     return (struct bytes){all, 0};
 }
 
-// Adds bytes, and zeros up to whole blocks of a size.
-static void add(struct bytes *to, const void *data, size_t length, size_t block) {
+void add(struct bytes *to, const void *data, size_t length, size_t block) {
     size_t whole = (length + block - 1) / block * block;
     if (to->length + whole > MOST)
         stop("a message is too long");
@@ -57,26 +55,28 @@ static void add(struct bytes *to, const void *data, size_t length, size_t block)
     to->length += whole;
 }
 
+int add_rest(struct bytes *to, int fd) {
+    for (;;) {
+        if (to->length + (1 << 16) > MOST)
+            stop("a message is too long");
+        long got = read(fd, to->at + to->length, 1 << 16);
+        if (got <= 0)
+            return got < 0 ? errno : 0;
+        to->length += got;
+    }
+}
+
 // Adds a file. Returns 0, or why it cannot be read.
 static int add_file(struct bytes *to, int folder, const char *name) {
     int fd = openat(folder, name, O_RDONLY | O_CLOEXEC);
     if (fd < 0)
         return errno;
-    for (;;) {
-        if (to->length + (1 << 16) > MOST)
-            stop("a message is too long");
-        long got = read(fd, to->at + to->length, 1 << 16);
-        int why = errno;
-        if (got <= 0) {
-            close(fd);
-            return got < 0 ? why : 0;
-        }
-        to->length += got;
-    }
+    int why = add_rest(to, fd);
+    close(fd);
+    return why;
 }
 
-// Reports bytes with words: first the bytes, then their length and the words, which stand between the events of the data disk.
-static void report(struct bytes data, const char *words) {
+void report(struct bytes data, const char *words) {
     static char block[SECTOR] __attribute__((aligned(BLOCK)));
     static int fd = -1;
     if (fd < 0 && (fd = open("/dev/vdb", O_WRONLY | O_DIRECT | O_CLOEXEC)) < 0)
@@ -180,8 +180,15 @@ static void send_logs(const char *words) {
 
 // ---- processes
 
+int status_of(int child) {
+    int status;
+    if (waitpid(child, &status, 0) < 0)
+        stop("waitpid");
+    return WIFSIGNALED(status) ? 128 + WTERMSIG(status) : WEXITSTATUS(status);
+}
+
 static int start(char **words, int in, int out, int err) {
-    int child = fork(), status;
+    int child = fork();
     if (child < 0)
         stop("fork");
     if (!child) {
@@ -189,21 +196,19 @@ static int start(char **words, int in, int out, int err) {
         execv(words[0], words);
         _exit(127);
     }
-    if (waitpid(child, &status, 0) < 0)
-        stop("waitpid");
-    return WIFSIGNALED(status) ? 128 + WTERMSIG(status) : WEXITSTATUS(status);
+    return status_of(child);
 }
 
-static int opened(const char *name, int flags) {
+int opened(const char *name, int flags) {
     int fd = open(name, flags | O_CLOEXEC, 0644);
     if (fd < 0)
         stop(name);
     return fd;
 }
 
-// run NUMBER FROM KILL_AT WORD..
+// run NUMBER FROM KILL_AT FAIL_AT WORD..
 static int run(char **words) {
-    char text[64];
+    char text[64], **with = words + 3;
     snprintf(text, sizeof text, "begin %s", words[0]);
     report((struct bytes){0}, text);
     setenv("LD_PRELOAD", "/power.so", 1);
@@ -211,9 +216,12 @@ static int run(char **words) {
     setenv("POWER_FOLDER", LOGS, 1);
     setenv("POWER_FROM", words[1], 1);
     setenv("POWER_KILL_AT", words[2], 1);
-    words[2] = "/program";
-    int made = O_RDWR | O_CREAT | O_TRUNC;
-    int status = start(words + 2, opened("/tmp/steps", O_RDONLY), opened("/tmp/out", made), opened("/tmp/err", made));
+    setenv("POWER_FAIL_AT", words[3], 1);
+    int is_served = !strcmp(words[4], "serve"), made = O_RDWR | O_CREAT | O_TRUNC;
+    int out = opened("/tmp/out", made), err = opened("/tmp/err", made);
+    with += is_served;
+    with[0] = is_served ? "/server" : "/program";
+    int status = is_served ? serve(with, words[0], err) : start(with, opened("/tmp/steps", O_RDONLY), out, err);
     struct bytes said = area();
     if (add_file(&said, AT_FDCWD, "/tmp/out"))
         stop("/tmp/out");
@@ -306,7 +314,7 @@ static void begin(void) {
 int main(int count, char **words) {
     const char *slash = strrchr(words[0], '/'), *name = slash ? slash + 1 : words[0];
     if (!strcmp(name, "run"))
-        return count < 5 ? 99 : run(words + 1);
+        return count < 6 ? 99 : run(words + 1);
     if (!strcmp(name, "say"))
         report((struct bytes){0}, joined(words + 1));
     else if (!strcmp(name, "send_logs"))

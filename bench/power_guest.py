@@ -135,25 +135,25 @@ def modules_of(directory, wanted):
     return found
 
 
-def compiled(room, source, *options):
-    made = room / source
-    subprocess.run([path_of("gcc"), "-O2", *options, "-o", made, HERE / f"{source}.c"], check=True)
+def compiled(room, name, sources, *options):
+    made = room / name
+    subprocess.run([path_of("gcc"), "-O2", *options, "-o", made, *(HERE / source for source in sources)], check=True)
     return made
 
 
-def first_files(room, program, names):
-    """Writes the guest's first file system, for file systems of these names. Returns its path."""
+def first_files(room, program, server, names):
+    """Writes the guest's first file system, with the programs, for file systems of these names. Returns its path."""
     archive, directory = Archive(), kernel()[1]
     files = modules_of(directory, [*ALWAYS, *(it for name in names for it in FILE_SYSTEMS[name].modules)])
     for file in files:
         archive.add_file(f"modules/{Path(file).name}", directory / file)
-    for name in ("busybox", str(program)):
-        for library in libraries(path_of(name) or name):
+    programs = {"bin/busybox": path_of("busybox"), "program": program, **({"server": server} if server else {})}
+    for name, path in programs.items():
+        for library in libraries(path):
             archive.add_file(library.lstrip("/"), library)
-    archive.add_file("bin/busybox", path_of("busybox"))
-    archive.add_file("program", program)
-    archive.add_file("power.so", compiled(room, "power", "-shared", "-fPIC"))
-    archive.add_file("init", compiled(room, "power_guest", "-static"))
+        archive.add_file(name, path)
+    archive.add_file("power.so", compiled(room, "power.so", ["power.c"], "-shared", "-fPIC"))
+    archive.add_file("init", compiled(room, "init", ["power_guest.c", "power_client.c"], "-static"))
     for name in ("run", "say", "send_logs"):
         archive.add(f"bin/{name}", b"/init", 0o120777)
     archive.add_file("jobs.sh", HERE / "power_jobs.sh", 0o100644)

@@ -2,23 +2,33 @@
 
 import hashlib
 import re
+import subprocess
 import tempfile
 from pathlib import Path
 
 import entry_logs
 import fault_runs
-from power_story import MARKER, files_of
+import serve_faults
+from power_promise import files_of
+from power_runs import MARKER
+
+bookie = serve_faults.bookie
 
 # Faults of `check` that are of a log that was being sealed.
 MAP_FAULTS = re.compile(r"(\d+) (?:map differs|fault (?:negative number|not a map|map length|repeated|count differs).*)")
 
 
 class Operator(fault_runs.Program):
-    """The program, called as an operator does: a copy that a repair left is moved away. Counts refused openings."""
+    """The program, called as an operator does: a copy that a repair left is moved away. Counts refused openings. Beside it
+    the server, if there is one."""
 
-    def __init__(self, path):
+    def __init__(self, path, server):
         super().__init__(path, "")
-        self.refused = 0
+        self.refused, self.server = 0, server
+
+    def serve(self, folder):
+        """Begins a session of the server, which notes on its error stream what it does not use."""
+        return bookie.Bookie([self.server, folder], stderr=subprocess.DEVNULL)
 
     def call(self, words, steps="", **environment):
         ran = super().call(words, steps, **environment)
@@ -40,19 +50,20 @@ class Finding:
 class Looker:
     """Looks at directories; one that was seen before, with the same promises, is not looked at again."""
 
-    def __init__(self, path, room):
-        self.path, self.room = path, room
+    def __init__(self, path, server, room):
+        self.path, self.server, self.room = path, server, room
         self.seen = {}
 
     def look(self, tar, promise):
         promised = [sorted(it) for it in (promise.must.items(), promise.may, promise.dead, promise.ended, promise.gone)]
-        digest = hashlib.sha256(repr(promised).encode())
+        values = [(key, sorted(map(repr, it))) for key, it in sorted(promise.attributes.items())]
+        digest = hashlib.sha256(repr([promised, values]).encode())
         for name, data in sorted(files_of(tar).items()):
             digest.update(repr((name, len(data))).encode() + data)
         key = digest.digest()
         if key not in self.seen:
             with tempfile.TemporaryDirectory(prefix="looked-", dir=self.room) as room:
-                self.seen[key] = Look(Operator(self.path), Path(room) / "logs", promise).run(tar, key[0] % 2)
+                self.seen[key] = Look(Operator(self.path, self.server), Path(room) / "logs", promise).run(tar, key[0])
         return self.seen[key]
 
 
@@ -61,16 +72,20 @@ class Look:
 
     def __init__(self, program, folder, promise):
         self.program, self.folder, self.ended, self.gone = program, folder, promise.ended, promise.gone
+        self.attributes = {key: values for key, values in promise.attributes.items() if key[1] not in promise.dead}
         self.looked = fault_runs.Looked(promise.must, promise.may, promise.dead)
 
-    def run(self, tar, checks_first):
+    def run(self, tar, chance):
+        """Looks at it: the check, the opening and the session of the server come in one of several orders."""
         finding = Finding()
         self.lay(tar)
         if not self.folder.exists():
             if self.looked.must:
                 finding.lost.append("the directory is not there")
             return finding
-        first = (self.check, self.open) if checks_first else (self.open, self.check)
+        first = [self.check, self.open] if chance % 2 else [self.open, self.check]
+        if self.program.server:
+            first.insert(chance // 2 % 3, self.serve)
         for step in (*first, self.read, self.add_again, self.compact):
             trouble = step()
             if trouble:
@@ -117,6 +132,27 @@ class Look:
         lost = [it for it, answer in zip(fenced, ran.out.splitlines()) if answer != "yes"]
         self.looked.lost += [f"the fence of ledger {ledger}" for ledger in lost]
         return None if ran.status == 0 else ran.last()
+
+    def serve(self):
+        """The server opens the directory. It has the entries, the fences, the deletions and the attributes."""
+        looked = self.looked
+        gone = {ledger for step, ledger in self.ended if step == "delete"}
+        try:
+            with self.program.serve(self.folder) as session:
+                keys = {**looked.may, **looked.must}
+                found = {key: serve_faults.content_of(session, *key) for key in keys}
+                fenced = {it: session.is_fenced(it) for step, it in self.ended if step == "fence" and it not in gone}
+                values = {key: getattr(session, key[0])(key[1]) for key in self.attributes}
+        except (bookie.Refused, bookie.Ended) as why:
+            return f"the server: {why}"
+        looked.compare(found, "served")
+        for key, data in found.items():
+            looked.lost += [f"served, the deletion of ledger {key[0]}"] if key[0] in gone and data is not None else []
+        looked.lost += [f"served, the fence of ledger {it}" for it, is_there in fenced.items() if not is_there]
+        for (name, ledger), value in values.items():
+            if value not in self.attributes[name, ledger]:
+                looked.lost.append(f"served, {name} of ledger {ledger} is {value!r:.30}")
+        return None
 
     def read(self):
         """The store is opened on the directory, after the way on that is printed if it refuses."""

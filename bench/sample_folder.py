@@ -42,13 +42,18 @@ def entry_record(ledger, entry, length):
     return record(ledger, entry, (text * (length // len(text) + 1))[:length])
 
 
+def map_batch(sizes):
+    """Returns a ledgers map of one batch, of the bytes that each ledger has."""
+    pairs = b"".join(number(ledger, 8) + number(size, 8) for ledger, size in sorted(sizes.items()))
+    return record(*BATCH_IDS, number(len(sizes), 4) + pairs)
+
+
 def ledgers_map(entries):
-    """Returns the number of ledgers, and the map: one batch."""
+    """Returns the number of ledgers, and the map."""
     sizes = {}
     for ledger, entry, length in entries:
         sizes[ledger] = sizes.get(ledger, 0) + len(entry_record(ledger, entry, length))
-    pairs = b"".join(number(ledger, 8) + number(size, 8) for ledger, size in sorted(sizes.items()))
-    return len(sizes), record(*BATCH_IDS, number(len(sizes), 4) + pairs)
+    return len(sizes), map_batch(sizes)
 
 
 def header(position, count):
@@ -80,4 +85,5 @@ def main(words):
     (folder / "live.txt").write_text("".join(f"ledgerID: {ledger}\n" for ledger in LIVE))
 
 
-main(sys.argv[1:])
+if __name__ == "__main__":
+    main(sys.argv[1:])
