@@ -1,0 +1,177 @@
+"""Damaged logs and manifests: nothing that is there is lost, and nothing that was answered is
+forgotten, without a word."""
+
+import re
+import unittest
+
+import kit
+import log_files
+import manifest_files
+
+# Four entries of a ledger that is deleted, and many of one that lives.
+DEAD = [(1, it, b"entry %03d" % it) for it in range(4)]
+LIVE = [(2, it, b"entry %03d" % it) for it in range(96)]
+FENCES = [("deleted", 2), ("fenced", 1)]
+
+
+class Length(kit.Case):
+    """A bit of the length of the fourth record of a sealed log is flipped, so that a scan ends
+    there as if it were torn."""
+
+    def setUp(self):
+        super().setUp()
+        log_files.write(self.logs, {0: DEAD + LIVE})
+        kit.flip(self.logs / "0.log", list(log_files.offsets(DEAD))[3] + 3)
+
+    def assert_kept(self):
+        """A file of the directory still has the records of the ledger that lives."""
+        records = log_files.records(LIVE)
+        self.assertTrue(any(records in data for data in self.files().values()), self.log_names())
+
+    def test_check_finds_it(self):
+        self.assertIn("0 ", self.bookie("check", self.logs, status=1)[0])
+
+    @unittest.expectedFailure  # the log is removed, with the entries behind the flipped bit
+    def test_compaction_of_the_server_loses_nothing(self):
+        opened = self.serve()
+        self.assertEqual(opened.call("delete", ledger=1).name, "dropped")
+        opened.call("compact", minor=200, major=800)
+        self.assert_kept()
+
+    @unittest.expectedFailure  # the log is removed, with the entries behind the flipped bit
+    def test_compaction_in_the_background_loses_nothing(self):
+        opened = self.serve(*kit.compact_words(200, 800))
+        self.assertEqual(opened.call("delete", ledger=1).name, "dropped")
+        kit.wait_until(lambda: not self.log_names(), kit.SILENCE)
+        self.assert_kept()
+
+    @unittest.expectedFailure  # the log is removed, with the entries behind the flipped bit
+    def test_compaction_by_the_shell_loses_nothing(self):
+        self.call("compact", "--dead", "1", self.logs)
+        self.assert_kept()
+
+    @unittest.expectedFailure  # an opening takes the log as whole
+    def test_opening_names_the_log(self):
+        ran = self.call("script", "--folder", self.logs)
+        self.assertIn(b"log 0", ran.stderr)
+
+    @unittest.expectedFailure  # `stat` and `ledgers` count four entries without a word
+    def test_reading_commands_name_the_log(self):
+        for word in ("stat", "ledgers"):
+            self.assertIn(b"log 0", self.call(word, self.logs).stderr)
+
+
+class Short(kit.Case):
+    """A sealed log whose file was cut short, before the position of its map."""
+
+    def setUp(self):
+        super().setUp()
+        log_files.write(self.logs, {1: LIVE})
+        self.whole = (self.logs / "1.log").read_bytes()
+        self.map = int.from_bytes(self.whole[8:16], "big")
+        (self.logs / "1.log").write_bytes(self.whole[:2000])
+
+    def test_check_finds_it(self):
+        out, _ = self.bookie("check", self.logs, status=1)
+        self.assertRegex(out, rf"^1 fault .*{self.map}")
+
+    @unittest.expectedFailure  # the text is that of a log whose sealing was interrupted
+    def test_check_has_a_word_of_its_own(self):
+        out, _ = self.bookie("check", self.logs, status=1)
+        self.assertNotEqual(out, f"1 fault not a map {self.map}\n")
+
+    @unittest.expectedFailure  # `stat` and `ledgers` end with 0 and no word
+    def test_reading_commands_name_the_log(self):
+        for word in ("stat", "ledgers"):
+            self.assertIn(b"log 1", self.call(word, self.logs).stderr)
+
+    @unittest.expectedFailure  # a hint is not made, since the log counts as unsealed
+    def test_hint_calls_it_unfit(self):
+        (self.logs / "1.log").write_bytes(self.whole[: log_files.HEADER + 100])
+        self.assertIn("unsealed 0 unfit 1", self.bookie("hint", self.logs)[0])
+
+    @unittest.expectedFailure  # lines say `fault` where the status is 0
+    def test_fault_is_status_1_with_a_live_list(self):
+        (self.room / "live").write_text("2\n")
+        ran = self.call("stat", "--live-file", self.room / "live", self.logs)
+        self.assertTrue(ran.returncode == 1 or b"fault" not in ran.stderr, ran.stderr)
+
+    @unittest.expectedFailure  # a second copy is left that no line names
+    def test_cut_names_each_copy(self):
+        (self.logs / "1.log").write_bytes(log_files.open_log(LIVE, b"\0\0\0\x50torn"))
+        out, errors = self.bookie("seal", "--cut-torn", self.logs, "1")
+        copies = [it for it in self.files() if it.startswith("1.log.")]
+        self.assertEqual([it for it in copies if it not in out + errors], [])
+
+
+class Ledgers(kit.Case):
+    """Deletions and fences that were answered, in a manifest that is cut or has a flipped bit at
+    its end."""
+
+    def setUp(self):
+        super().setUp()
+        self.publish("1 0 one", "2 0 two")
+        self.path = self.logs / "ledgers.manifest"
+        self.script("delete 2", "fence 1")
+        self.assertEqual(manifest_files.records(self.path), FENCES)
+        self.data = self.path.read_bytes()
+
+    def assert_told(self):
+        """Ledger 2 is still deleted and ledger 1 fenced, or the opening ends with 1 or names the
+        manifest."""
+        ran = self.call("script", "--folder", self.logs, steps="holds 2 0\nfenced 1\n")
+        is_told = ran.returncode == 1 or b"ledgers.manifest" in ran.stderr
+        self.assertTrue(is_told or ran.stdout == b"no\nyes\n", (ran.stdout, ran.stderr))
+
+    def test_whole(self):
+        self.assertEqual(self.script("holds 2 0", "fenced 1"), ["no", "yes"])
+
+    def is_told(self):
+        """Whether `manifest --check` refuses the manifest, or says that it ends torn."""
+        ran = self.call("manifest", "--check", self.logs)
+        return ran.returncode == 1 or re.search(
+            rb"^ledgers.manifest .* torn [1-9]", ran.stdout, re.M
+        )
+
+    def test_each_flipped_bit_is_told(self):
+        for at in range(len(self.data)):
+            self.path.write_bytes(self.data)
+            kit.flip(self.path, at, 1 << at % 8)
+            self.assertTrue(self.is_told(), at)
+
+    def test_each_cut_but_at_a_batch_is_told(self):
+        ends = {at for at, _ in manifest_files.batches(self.data)[1]} | {0}
+        for size in set(range(len(self.data))) - ends:
+            self.path.write_bytes(self.data[:size])
+            self.assertTrue(self.is_told(), size)
+
+    @unittest.expectedFailure  # an empty one is taken beside a manifest of logs with records
+    def test_empty(self):
+        self.path.write_bytes(b"")
+        self.assert_told()
+
+    @unittest.expectedFailure  # a manifest that ends before a batch is opened without a word
+    def test_cut_at_each_batch(self):
+        for at, _ in manifest_files.batches(self.data)[1]:
+            self.path.write_bytes(self.data[:at])
+            self.assert_told()
+
+    @unittest.expectedFailure  # `manifest --check` ends with 0, `check` and `stat` say nothing
+    def test_flipped_bit_of_the_last_batch_is_told_by_each(self):
+        kit.flip(self.path, -1)
+        self.bookie("manifest", "--check", self.logs, status=1)
+        for word in ("check", "stat"):
+            self.assertIn(b"ledgers.manifest", self.call(word, self.logs).stderr)
+
+
+class Help(kit.Case):
+    @unittest.expectedFailure  # the server names the fault of a log without the help of the shell
+    def test_server_gives_the_help_of_the_shell(self):
+        log_files.write(self.logs, {1: LIVE[:3]}, opened=(1,))
+        with (self.logs / "1.log").open("ab") as log:
+            log.write(b"\0\0\0\7" + bytes(40))
+        _, errors = self.bookie("script", "--folder", self.logs, status=1)
+        self.assertIn("help:", errors)
+        opened = self.started()
+        self.assertEqual((opened.hello().name, opened.end()), ("bad_log", 1))
+        self.assertIn("help:", opened.errors_now())

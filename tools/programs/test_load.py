@@ -1,0 +1,89 @@
+"""The verdict of `load` over a disk that gives other bytes than were written."""
+
+import errno
+import re
+
+import device
+import entry_logs
+import kit
+import log_files
+import manifest_files
+
+FILES = re.compile(
+    r"^files found (\d+) deleted (\d+) lost (\d+) unknown (\d+) earlier (\d+) of (\d+)$", re.M
+)
+THREADS = ["--threads", "2", "--adds", "60"]
+
+
+class Load(kit.Case):
+    def figures(self, out):
+        """Returns the numbers of the line on files: found, deleted, lost, unknown, earlier and of
+        how many."""
+        return list(map(int, FILES.search(out).groups()))
+
+    def test_good(self):
+        out, _ = self.bookie("load", "--folder", self.logs, *THREADS)
+        found, deleted, *others = self.figures(out)
+        self.assertEqual(
+            (found + deleted, others, out.splitlines()[-1]), (60, [0, 0, 0, 0], "good")
+        )
+        self.assertEqual(len(log_files.read(self.logs)), 60)
+
+    def test_figures_agree_with_the_files(self):
+        """Each thread reads an entry back after every fourth of its thirty adds."""
+        out, _ = self.bookie("load", "--folder", self.logs, *THREADS)
+        payloads = [16 + len(it) for it in log_files.read(self.logs).values()]
+        adds, takes, logs, _, latencies, receipts, *_ = out.splitlines()
+        self.assertEqual(len(payloads), 60)
+        self.assertEqual(adds.split()[:8:2], ["adds", "bytes", "held", "refused"])
+        self.assertEqual(adds.split()[1:8:2], ["60", str(sum(payloads)), "0", "0"])
+        self.assertEqual(takes, "takes 14 wrong 0 ledgers deleted 0")
+        self.assertEqual(logs, "logs made 1 compacted 0 removed 0")
+        self.assertEqual(receipts, "receipts 60")
+        found = list(map(int, latencies.split()[2:7:2]))
+        self.assertEqual(found, sorted(found))
+
+    def test_deleted_ledger_is_recorded_and_compacted_away(self):
+        """A thread deletes the last of its eight ledgers after a thousand adds."""
+        words = ["load", "--folder", self.logs, "--threads", "1", "--adds", "1000"]
+        out, _ = self.bookie(*words)
+        found, deleted, *others = self.figures(out)
+        self.assertEqual((found + deleted, others), (1000, [0, 0, 0, 0]))
+        _, takes, logs, *_ = out.splitlines()
+        self.assertEqual(takes, "takes 250 wrong 0 ledgers deleted 1")
+        self.assertEqual(logs, "logs made 2 compacted 1 removed 1")
+        recorded = manifest_files.records(self.logs / "ledgers.manifest")
+        self.assertEqual(recorded, [("deleted", 7)])
+        entries = log_files.read(self.logs)
+        self.assertEqual((len(entries), {it for it, _ in entries}), (found, set(range(7))))
+
+    @device.needs_compiler
+    def test_flipped_byte_of_an_entry_is_bad(self):
+        """A search finds the key of the entry with other data, so that the entry counts as lost."""
+        more = device.flipped(self.logs / "0.log", entry_logs.HEADER + log_files.FRONT)
+        out, _ = self.bookie("load", "--folder", self.logs, *THREADS, status=1, more=more)
+        found, deleted, lost, unknown, *_ = self.figures(out)
+        self.assertEqual((found + deleted, lost, unknown, out.splitlines()[-1]), (59, 1, 0, "bad"))
+
+    @device.needs_compiler
+    def test_flipped_bit_of_an_entry_id_is_bad(self):
+        """A search finds a key that nobody added, and not the one that was."""
+        more = device.flipped(self.logs / "0.log", entry_logs.HEADER + log_files.FRONT - 3)
+        out, _ = self.bookie("load", "--folder", self.logs, *THREADS, status=1, more=more)
+        found, deleted, lost, unknown, *earlier = self.figures(out)
+        self.assertEqual((found + deleted, lost, unknown, earlier), (59, 1, 1, [0, 0]))
+        self.assertEqual(out.splitlines()[-1], "bad")
+
+    def test_earlier_entries_are_counted(self):
+        self.publish("1 0 hello", "1 1 more", "2 0 two")
+        out, _ = self.bookie("load", "--folder", self.logs, *THREADS)
+        self.assertEqual((self.figures(out)[4:], out.splitlines()[-1]), ([3, 3], "good"))
+
+    @device.needs_compiler
+    def test_log_that_is_not_read_any_more_is_named(self):
+        """Each read of the log of earlier entries fails after the opening has read it."""
+        self.publish("1 0 hello", "1 1 more", "2 0 two")
+        reads = device.failing(self.logs / "0.log", "read", 12, errno.EIO, stays=True)
+        out, errors = self.bookie("load", "--folder", self.logs, *THREADS, status=1, more=reads)
+        failed = f"{self.logs / '0.log'}: read: Input/output error (os error 5)"
+        self.assertEqual((out, errors.splitlines()), ("", ["fault disk", failed]))
