@@ -12,6 +12,7 @@ import manifest_files
 FILES = re.compile(
     r"^files found (\d+) deleted (\d+) lost (\d+) unknown (\d+) earlier (\d+) of (\d+)$", re.M
 )
+LOGS = re.compile(r"logs made (\d+) compacted (\d+) removed (\d+)")
 THREADS = ["--threads", "2", "--adds", "60"]
 
 
@@ -43,19 +44,30 @@ class Load(kit.Case):
         found = list(map(int, latencies.split()[2:7:2]))
         self.assertEqual(found, sorted(found))
 
-    def test_deleted_ledger_is_recorded_and_compacted_away(self):
-        """A thread deletes the last of its eight ledgers after a thousand adds."""
-        words = ["load", "--folder", self.logs, "--threads", "1", "--adds", "1000"]
-        out, _ = self.bookie(*words)
+    def deletions(self, thousands):
+        """Runs a load of one thread, which deletes the last of its eight ledgers after each
+        thousand adds. Returns how many logs were compacted: none, if each entry of a deleted ledger
+        was still in the cache."""
+        logs = self.room / f"logs{thousands}"
+        words = ["--threads", "1", "--adds", str(1000 * thousands)]
+        out, _ = self.bookie("load", "--folder", logs, *words)
         found, deleted, *others = self.figures(out)
-        self.assertEqual((found + deleted, others), (1000, [0, 0, 0, 0]))
-        _, takes, logs, *_ = out.splitlines()
-        self.assertEqual(takes, "takes 250 wrong 0 ledgers deleted 1")
-        self.assertEqual(logs, "logs made 2 compacted 1 removed 1")
-        recorded = manifest_files.records(self.logs / "ledgers.manifest")
-        self.assertEqual(recorded, [("deleted", 7)])
-        entries = log_files.read(self.logs)
-        self.assertEqual((len(entries), {it for it, _ in entries}), (found, set(range(7))))
+        self.assertEqual((found + deleted, others), (1000 * thousands, [0, 0, 0, 0]))
+        _, takes, told, *_ = out.splitlines()
+        self.assertEqual(takes, f"takes {250 * thousands} wrong 0 ledgers deleted {thousands}")
+        gone = [8 * it + 7 for it in range(thousands)]
+        recorded = manifest_files.records(logs / "ledgers.manifest")
+        self.assertEqual(recorded, [("deleted", it) for it in gone])
+        entries = log_files.read(logs)
+        live = {it for it in range(8 * thousands) if it not in gone}
+        self.assertEqual((len(entries), {it for it, _ in entries}), (found, live))
+        made, compacted, removed = map(int, LOGS.fullmatch(told).groups())
+        self.assertEqual(len(list(logs.glob("*.log"))), made - removed)
+        return compacted
+
+    def test_deleted_ledgers_are_recorded_and_compacted_away(self):
+        """A fast program deletes before it flushes: then a longer load has to."""
+        self.assertTrue(any(self.deletions(it) for it in (1, 4, 16, 64)))
 
     @device.needs_compiler
     def test_flipped_byte_of_an_entry_is_bad(self):
