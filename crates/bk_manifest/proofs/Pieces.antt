@@ -1,6 +1,6 @@
 -- A batch that was written is whole where it stands, and cut where the file ends in it; and a whole
 -- batch is one that was written.
-use Rattle.std.proofs.Common.{◌≡◌, ℕ, ◌+◌, ◌-◌, ◌^◌, ◌<◌, ◌≤◌, Bool, true, false, cond, eqb, ltb, List, [], ◌++◌, length, take, drop, refl, sym, ap, subst, ◌∙◌, append_assoc, arith, inl, inr}
+use Rattle.std.proofs.Common.{◌≡◌, ℕ, ◌+◌, ◌-◌, ◌^◌, ◌<◌, ◌≤◌, Bool, true, false, cond, eqb, ltb, List, [], ◌++◌, length, take, drop, refl, sym, ap, subst, ◌∙◌, append_assoc, arith, inl, inr, ◌⊎◌}
 use Rattle.std.specs.Int.{w32, from_be_bytes, to_be_bytes}
 use Rattle.std.proofs.Math.Seq.{take-append-add}
 use Rattle.std.proofs.lemmas.Bool.{cases_lt, ltb-false, le-ltb, lt-ltb, eq-eqb, eqb-true}
@@ -15,7 +15,7 @@ use Rattle.bk_manifest.proofs.ReadFields.{wide32}
 -- ---- the four tests
 
 abbrev tested : Bool → Bool → Bool → Bool → ℕ → Piece
-tested short head cut whole size = cond short Cut (cond head (cond cut Cut (cond whole (Whole size) Misfit)) Misfit)
+tested short head cut whole size = cond short Cut (cond head (cond cut Cut (cond whole (Whole size) (Misfit (size + 12)))) (Misfit 8))
 
 is_whole_by : (short head cut whole : Bool) (size : ℕ) → short ≡ false → head ≡ true → cut ≡ false → whole ≡ true → tested short head cut whole size ≡ Whole size
 is_whole_by short head cut whole size p q r s = rw (p, q, r, s) refl
@@ -39,6 +39,15 @@ whole_by false false cut whole size n e = absurd cc
 whole_by false true true whole size n e = absurd cc
 whole_by false true false false size n e = absurd cc
 whole_by false true false true size n e = record { long = refl; head_fits = refl; inside = refl; fits = refl; size_is = cc }
+
+-- what a misfit fails, and of how many bytes it is
+misfit_by : (short head cut whole : Bool) (size n : ℕ) → tested short head cut whole size ≡ Misfit n
+    → (short ≡ false) × (((head ≡ false) × (n ≡ 8)) ⊎ ((cut ≡ false) × (n ≡ size + 12)))
+misfit_by true head cut whole size n e = absurd cc
+misfit_by false false cut whole size n e = (refl, inl (refl, cc))
+misfit_by false true true whole size n e = absurd cc
+misfit_by false true false true size n e = absurd cc
+misfit_by false true false false size n e = (refl, inr (refl, cc))
 
 -- ---- what they say
 
@@ -83,6 +92,27 @@ whole_only generation place bytes size is =
       fits = subst (λ (n : ℕ). checksum_of_batch generation place n (take n (drop 8 bytes)) ≡ from_be_bytes w32 (drop (8 + n) bytes)) w.size_is (eqb-true _ _ w.fits);
     }
 
+-- the bytes begin with a misfit of so many bytes: a head that does not fit, or a batch
+pub record BeginsMisfit (generation place : ℕ) (bytes : List ℕ) (size : ℕ) : Type 0 where
+  pub long : 8 ≤ length bytes
+  pub which : ((checksum_of_batch generation place (size_field bytes) [] ≡ from_be_bytes w32 (drop 4 bytes) → ⊥) × (size ≡ 8))
+      ⊎ ((size_field bytes + 12 ≤ length bytes) × (size ≡ size_field bytes + 12))
+
+pub misfit_only : (generation place : ℕ) (bytes : List ℕ) (size : ℕ) → piece_at generation place bytes ≡ Misfit size → BeginsMisfit generation place bytes size
+unfolding piece_at body_at
+misfit_only generation place bytes size is =
+    let m = misfit_by (ltb (length bytes) 8) (eqb (checksum_of_batch generation place (size_field bytes) []) (from_be_bytes w32 (drop 4 bytes)))
+    (ltb (length bytes) (size_field bytes + 12))
+    (eqb (checksum_of_batch generation place (size_field bytes) (take (size_field bytes) (drop 8 bytes))) (from_be_bytes w32 (drop (8 + size_field bytes) bytes)))
+    (size_field bytes) size is in
+    record {
+      long = ltb-false _ _ m.0;
+      which = elim m.1 [
+        | inl head ↦ inl (λ same. let fits = eq-eqb _ _ same in absurd (cc (fits, head.0)), head.1)
+        | inr body ↦ inr (ltb-false _ _ body.0, body.1)
+      ];
+    }
+
 -- ---- what was written
 
 -- what stands behind the head of a batch that was written
@@ -98,11 +128,11 @@ pub length-batch : (generation place : ℕ) (body : List ℕ) → length (batch_
 unfolding batch_of tail_of
 length-batch generation place body = omega (arith, length-append body (tail_of generation place body))
 
-batch_size : (generation place : ℕ) (body rest : List ℕ) → length body < 2 ^ 32 → size_field (batch_of generation place body ++ rest) ≡ length body
+pub batch_size : (generation place : ℕ) (body rest : List ℕ) → length body < 2 ^ 32 → size_field (batch_of generation place body ++ rest) ≡ length body
 unfolding batch_of
 batch_size generation place body rest small = wide32.again (length body) small
 
-batch_head : (generation place : ℕ) (body rest : List ℕ)
+pub batch_head : (generation place : ℕ) (body rest : List ℕ)
     → checksum_of_batch generation place (length body) [] ≡ from_be_bytes w32 (drop 4 (batch_of generation place body ++ rest))
 unfolding batch_of
 batch_head generation place body rest = sym (wide32.again (checksum_of_batch generation place (length body) []) (low generation place (length body) []))

@@ -8,7 +8,7 @@ ghost use Rattle.bk_manifest.specs.File.{Content, content, content_of, generatio
 
 use crate::checksum::checksum;
 use crate::fields::record_at;
-use crate::piece::{AROUND, BATCH_HEAD, Piece, has_batch_behind, number_at, read_piece};
+use crate::piece::{AROUND, BATCH_HEAD, Piece, is_torn, number_at, read_piece};
 use crate::{Fault, ReadError, Record};
 use std::alloc::Global;
 
@@ -65,11 +65,11 @@ fn found_in(alloc: Global, generation: u64, file: &[u8]) -> Result<(Vec<Record>,
                 place += size + AROUND;
             }
             Piece::Cut => return Ok((records, place)),
-            Piece::Misfit => {
-                if has_batch_behind(generation, file, place) {
-                    return Err(ReadError::Fault(Fault::Damaged(place as u64)));
+            Piece::Misfit { size } => {
+                if is_torn(generation, file, place, size) {
+                    return Ok((records, place));
                 }
-                return Ok((records, place));
+                return Err(ReadError::Fault(Fault::Damaged(place as u64)));
             }
         }
     }
@@ -123,15 +123,15 @@ fn read_contents(alloc: Global, file: &[u8]) -> Result<Contents, ReadError>
 /// Reads a manifest. Returns the records of all whole batches.
 ///
 /// An end that is torn, as a crash leaves it, is no error: `torn` says how many bytes it has. It is
-/// torn if the last batch is cut by the end of the file, or if no batch fits at a position and none
-/// behind it.
+/// torn if the last batch is cut by the end of the file, or if a sector of it, 512 bytes, was never
+/// written: its part of the batch is zeros.
 ///
 /// # Errors
 ///
 /// The first fault from the left:
 ///
 /// - `Short`, `BadMagic`, `Version`, `BadGeneration`, in this order, for the header;
-/// - per batch, with its position: `Damaged` if it does not fit its checksums and a later one does;
+/// - per batch, with its position: `Damaged` if it does not fit its checksums and is no torn end;
 ///   `CutRecord` or `UnknownKind` at the first of its records that is not whole or not known.
 ///
 /// `Memory` if an allocation is refused.
