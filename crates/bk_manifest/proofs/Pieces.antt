@@ -8,23 +8,24 @@ use Rattle.std.proofs.lemmas.List.{take_at, drop_at, length-append, length-take,
 use Rattle.bk_manifest.specs.declared.piece.Piece.{Piece}
 use Rattle.bk_manifest.specs.declared.piece.Piece.TheVariants.{Whole, Cut, Misfit}
 use Rattle.bk_manifest.specs.Checksum.{checksum_of_batch}
+use Rattle.bk_manifest.specs.Holes.{count_in_head}
 use Rattle.bk_manifest.specs.Batch.{head_of, batch_of, size_field, body_at, piece_at}
 use Rattle.bk_manifest.proofs.Checksums.{crc32c_low}
 use Rattle.bk_manifest.proofs.ReadFields.{wide32}
 
 -- ---- the four tests
 
-abbrev tested : Bool → Bool → Bool → Bool → ℕ → Piece
-tested short head cut whole size = cond short Cut (cond head (cond cut Cut (cond whole (Whole size) (Misfit (size + 12)))) (Misfit 8))
+abbrev tested : Bool → Bool → Bool → Bool → ℕ → ℕ → Piece
+tested short head cut whole size reach = cond short Cut (cond head (cond cut Cut (cond whole (Whole size) (Misfit (size + 12)))) (Misfit reach))
 
-is_whole_by : (short head cut whole : Bool) (size : ℕ) → short ≡ false → head ≡ true → cut ≡ false → whole ≡ true → tested short head cut whole size ≡ Whole size
-is_whole_by short head cut whole size p q r s = rw (p, q, r, s) refl
+is_whole_by : (short head cut whole : Bool) (size reach : ℕ) → short ≡ false → head ≡ true → cut ≡ false → whole ≡ true → tested short head cut whole size reach ≡ Whole size
+is_whole_by short head cut whole size reach p q r s = rw (p, q, r, s) refl
 
-is_short_by : (short head cut whole : Bool) (size : ℕ) → short ≡ true → tested short head cut whole size ≡ Cut
-is_short_by short head cut whole size p = rw p refl
+is_short_by : (short head cut whole : Bool) (size reach : ℕ) → short ≡ true → tested short head cut whole size reach ≡ Cut
+is_short_by short head cut whole size reach p = rw p refl
 
-is_cut_by : (short head cut whole : Bool) (size : ℕ) → short ≡ false → head ≡ true → cut ≡ true → tested short head cut whole size ≡ Cut
-is_cut_by short head cut whole size p q r = rw (p, q, r) refl
+is_cut_by : (short head cut whole : Bool) (size reach : ℕ) → short ≡ false → head ≡ true → cut ≡ true → tested short head cut whole size reach ≡ Cut
+is_cut_by short head cut whole size reach p q r = rw (p, q, r) refl
 
 record IsWholeBy (short head cut whole : Bool) (size n : ℕ) : Type 0 where
   long : short ≡ false
@@ -33,21 +34,21 @@ record IsWholeBy (short head cut whole : Bool) (size n : ℕ) : Type 0 where
   fits : whole ≡ true
   size_is : size ≡ n
 
-whole_by : (short head cut whole : Bool) (size n : ℕ) → tested short head cut whole size ≡ Whole n → IsWholeBy short head cut whole size n
-whole_by true head cut whole size n e = absurd cc
-whole_by false false cut whole size n e = absurd cc
-whole_by false true true whole size n e = absurd cc
-whole_by false true false false size n e = absurd cc
-whole_by false true false true size n e = record { long = refl; head_fits = refl; inside = refl; fits = refl; size_is = cc }
+whole_by : (short head cut whole : Bool) (size reach n : ℕ) → tested short head cut whole size reach ≡ Whole n → IsWholeBy short head cut whole size n
+whole_by true head cut whole size reach n e = absurd cc
+whole_by false false cut whole size reach n e = absurd cc
+whole_by false true true whole size reach n e = absurd cc
+whole_by false true false false size reach n e = absurd cc
+whole_by false true false true size reach n e = record { long = refl; head_fits = refl; inside = refl; fits = refl; size_is = cc }
 
 -- what a misfit fails, and of how many bytes it is
-misfit_by : (short head cut whole : Bool) (size n : ℕ) → tested short head cut whole size ≡ Misfit n
-    → (short ≡ false) × (((head ≡ false) × (n ≡ 8)) ⊎ ((cut ≡ false) × (n ≡ size + 12)))
-misfit_by true head cut whole size n e = absurd cc
-misfit_by false false cut whole size n e = (refl, inl (refl, cc))
-misfit_by false true true whole size n e = absurd cc
-misfit_by false true false true size n e = absurd cc
-misfit_by false true false false size n e = (refl, inr (refl, cc))
+misfit_by : (short head cut whole : Bool) (size reach n : ℕ) → tested short head cut whole size reach ≡ Misfit n
+    → (short ≡ false) × (((head ≡ false) × (n ≡ reach)) ⊎ ((cut ≡ false) × (n ≡ size + 12)))
+misfit_by true head cut whole size reach n e = absurd cc
+misfit_by false false cut whole size reach n e = (refl, inl (refl, cc))
+misfit_by false true true whole size reach n e = absurd cc
+misfit_by false true false true size reach n e = absurd cc
+misfit_by false true false false size reach n e = (refl, inr (refl, cc))
 
 -- ---- what they say
 
@@ -74,7 +75,7 @@ whole_when generation place bytes size b =
     is_whole_by (ltb (length bytes) 8) (eqb (checksum_of_batch generation place (size_field bytes) []) (from_be_bytes w32 (drop 4 bytes)))
     (ltb (length bytes) (size_field bytes + 12))
     (eqb (checksum_of_batch generation place (size_field bytes) (take (size_field bytes) (drop 8 bytes))) (from_be_bytes w32 (drop (8 + size_field bytes) bytes)))
-    (size_field bytes) (le-ltb _ _ b.long) (eq-eqb _ _ head_fits) (le-ltb _ _ inside) (eq-eqb _ _ fits)
+    (size_field bytes) (count_in_head place bytes) (le-ltb _ _ b.long) (eq-eqb _ _ head_fits) (le-ltb _ _ inside) (eq-eqb _ _ fits)
     ∙ ap (λ (n : ℕ). Whole n) b.size_is
 
 pub whole_only : (generation place : ℕ) (bytes : List ℕ) (size : ℕ) → piece_at generation place bytes ≡ Whole size → BeginsWhole generation place bytes size
@@ -83,7 +84,7 @@ whole_only generation place bytes size is =
     let w = whole_by (ltb (length bytes) 8) (eqb (checksum_of_batch generation place (size_field bytes) []) (from_be_bytes w32 (drop 4 bytes)))
     (ltb (length bytes) (size_field bytes + 12))
     (eqb (checksum_of_batch generation place (size_field bytes) (take (size_field bytes) (drop 8 bytes))) (from_be_bytes w32 (drop (8 + size_field bytes) bytes)))
-    (size_field bytes) size is in
+    (size_field bytes) (count_in_head place bytes) size is in
     record {
       long = ltb-false _ _ w.long;
       size_is = w.size_is;
@@ -95,7 +96,7 @@ whole_only generation place bytes size is =
 -- the bytes begin with a misfit of so many bytes: a head that does not fit, or a batch
 pub record BeginsMisfit (generation place : ℕ) (bytes : List ℕ) (size : ℕ) : Type 0 where
   pub long : 8 ≤ length bytes
-  pub which : ((checksum_of_batch generation place (size_field bytes) [] ≡ from_be_bytes w32 (drop 4 bytes) → ⊥) × (size ≡ 8))
+  pub which : ((checksum_of_batch generation place (size_field bytes) [] ≡ from_be_bytes w32 (drop 4 bytes) → ⊥) × (size ≡ count_in_head place bytes))
       ⊎ ((size_field bytes + 12 ≤ length bytes) × (size ≡ size_field bytes + 12))
 
 pub misfit_only : (generation place : ℕ) (bytes : List ℕ) (size : ℕ) → piece_at generation place bytes ≡ Misfit size → BeginsMisfit generation place bytes size
@@ -104,7 +105,7 @@ misfit_only generation place bytes size is =
     let m = misfit_by (ltb (length bytes) 8) (eqb (checksum_of_batch generation place (size_field bytes) []) (from_be_bytes w32 (drop 4 bytes)))
     (ltb (length bytes) (size_field bytes + 12))
     (eqb (checksum_of_batch generation place (size_field bytes) (take (size_field bytes) (drop 8 bytes))) (from_be_bytes w32 (drop (8 + size_field bytes) bytes)))
-    (size_field bytes) size is in
+    (size_field bytes) (count_in_head place bytes) size is in
     record {
       long = ltb-false _ _ m.0;
       which = elim m.1 [
@@ -174,7 +175,7 @@ head_cut generation place size some small few =
     is_cut_by (ltb (length bytes) 8) (eqb (checksum_of_batch generation place (size_field bytes) []) (from_be_bytes w32 (drop 4 bytes)))
     (ltb (length bytes) (size_field bytes + 12))
     (eqb (checksum_of_batch generation place (size_field bytes) (take (size_field bytes) (drop 8 bytes))) (from_be_bytes w32 (drop (8 + size_field bytes) bytes)))
-    (size_field bytes) (le-ltb _ _ (omega (arith, long))) (eq-eqb _ _ head_fits) (lt-ltb _ _ cut)
+    (size_field bytes) (count_in_head place bytes) (le-ltb _ _ (omega (arith, long))) (eq-eqb _ _ head_fits) (lt-ltb _ _ cut)
 
 pub short_cut : (generation place : ℕ) (bytes : List ℕ) → length bytes < 8 → piece_at generation place bytes ≡ Cut
 unfolding piece_at

@@ -9,7 +9,7 @@ use Rattle.bk_manifest.specs.declared.piece.Piece.{Piece}
 use Rattle.bk_manifest.specs.declared.piece.Piece.TheVariants.{Whole, Cut, Misfit}
 use Rattle.bk_manifest.specs.Checksum.{checksum_of_batch}
 use Rattle.bk_manifest.specs.Fact.{Fact, body_of, AreFacts}
-use Rattle.bk_manifest.specs.Holes.{is_zeros, left_in_sector, count_in_sector, any_hole, has_hole, sector_of, IsHole, MayBeLeft}
+use Rattle.bk_manifest.specs.Holes.{is_zeros, left_in_sector, count_in_sector, count_in_head, any_hole, has_hole, sector_of, IsHole, MayBeLeft}
 use Rattle.bk_manifest.specs.Batch.{batch_of, size_field, piece_at, is_whole, any_behind, is_torn}
 use Rattle.bk_manifest.specs.File.{written, content_of, all_facts, IsEnd}
 use Rattle.bk_manifest.proofs.Fronts.{from_take_4}
@@ -106,7 +106,8 @@ misfit_without_hole generation place n body left small may is none =
     elim m.which [
       | inl head ↦
           let same : take 8 left ≡ take 8 (batch_of generation place body) =
-          same_fronts 8 left batch m.long (omega (arith, m.long, may.within)) (agree place 8 batch left may m.long (subst (λ (k : ℕ). has_hole place (take k left) ≡ false) head.1 none)) in
+          same_fronts 8 left batch m.long (omega (arith, m.long, may.within))
+          (λ i low. agree place n batch left may (omega (arith, head.1)) none i (omega (arith, head.1, m.long, low))) in
           let first : size_field left ≡ length body = first_field left batch same ∙ size in
           let second : from_be_bytes w32 (drop 4 left) ≡ from_be_bytes w32 (drop 4 (batch_of generation place body)) = second_field left batch same in
           head.0 (ap (λ (k : ℕ). checksum_of_batch generation place k []) first ∙ batch_head generation place body []

@@ -9,7 +9,7 @@ use Rattle.bk_manifest.specs.declared.piece.Piece.TheVariants.{Whole, Cut, Misfi
 use Rattle.bk_manifest.specs.Checksum.{checksum_of_batch}
 use Rattle.bk_manifest.specs.Fact.{Fact, body_of}
 use Rattle.bk_manifest.specs.Reading.{◌>>=◌, facts_of}
-use Rattle.bk_manifest.specs.Holes.{has_hole}
+use Rattle.bk_manifest.specs.Holes.{has_hole, count_in_head}
 
 -- head of a batch: size of its body in four bytes, and a checksum of the size alone
 abbrev pub head_of : ℕ → ℕ → ℕ → List ℕ
@@ -31,8 +31,8 @@ abbrev pub size_field : List ℕ → ℕ
 size_field bytes = from_be_bytes w32 bytes
 
 -- What the bytes from a place on begin with: a whole batch that fits both its checksums, a batch that
--- is cut, where they end before the head does or before the size says, or a misfit of so many bytes: a
--- head, or a batch whose head fits.
+-- is cut, where they end before the head does or before the size says, or a misfit of so many bytes: all
+-- in the sectors of a head that does not fit, or a batch whose head fits.
 unfoldable pub body_at : ℕ → ℕ → List ℕ → Piece
 body_at generation place bytes =
     if nat_lt (length bytes) (size_field bytes + 12) then Cut
@@ -44,7 +44,7 @@ unfoldable pub piece_at : ℕ → ℕ → List ℕ → Piece
 piece_at generation place bytes =
     if nat_lt (length bytes) 8 then Cut
     else if checksum_of_batch generation place (size_field bytes) [] == from_be_bytes w32 (drop 4 bytes) then body_at generation place bytes
-    else Misfit 8
+    else Misfit (count_in_head place bytes)
 
 abbrev pub is_whole : Piece → Bool
 is_whole (Whole size) = true

@@ -14,6 +14,10 @@ left_in_sector place = 512 - place % 512
 abbrev pub count_in_sector : ℕ → List ℕ → ℕ
 count_in_sector place bytes = min (left_in_sector place) (length bytes)
 
+-- how many of the bytes from a place on are in the sectors that the first eight of them touch
+abbrev pub count_in_head : ℕ → List ℕ → ℕ
+count_in_head place bytes = min (7 + left_in_sector (place + 7)) (length bytes)
+
 -- one of so many sectors was never written: its part of the bytes from a place on is zeros
 unfoldable pub any_hole : ℕ → ℕ → List ℕ → Bool
 any_hole zero place bytes = false

@@ -5,7 +5,7 @@ ghost use Rattle.std.specs.Int.{w32, from_be_bytes};
 ghost use Rattle.bk_manifest.specs.Batch.{body_at, piece_at, any_behind, is_torn, HoldsWhole};
 
 use crate::checksum::batch_checksum;
-use crate::holes::has_hole;
+use crate::holes::{count_in_head, has_hole};
 
 /// Length in bytes of the head of a batch: the size of its body, and a checksum of the size.
 pub(crate) const BATCH_HEAD: usize = 8;
@@ -20,8 +20,8 @@ pub enum Piece {
     Whole { size: usize },
     /// The bytes end before the head of a batch does, or before the batch does by its head.
     Cut,
-    /// A checksum does not fit. The batch has these bytes at least: its head if that does not fit, else
-    /// all of it.
+    /// A checksum does not fit. These bytes may be the batch's: all in the sectors of its head if that
+    /// does not fit, else all of the batch.
     Misfit { size: usize },
 }
 
@@ -80,7 +80,9 @@ pub(crate) fn read_piece(generation: u64, place: u64, bytes: &[u8]) -> Piece
     if batch_checksum(generation, place, field, &[]) == number_at(bytes, 4) {
         read_body(generation, place, bytes)
     } else {
-        Piece::Misfit { size: BATCH_HEAD }
+        Piece::Misfit {
+            size: count_in_head(place, bytes),
+        }
     }
 }
 
