@@ -191,8 +191,8 @@ fn kept_work(
     failed: FailedCalls,
 ) -> Result<Opened, CommandFault> {
     let mut disk = disk;
-    let book = Book::open(alloc, &mut disk, &failed)?;
-    let (mut disk, ignored) = FolderDisk::kept(alloc, disk, hints)?;
+    let mut book = Book::open(alloc, &mut disk, &failed)?;
+    let (mut disk, ignored) = FolderDisk::kept(alloc, disk, hints, book.take_reach())?;
     Ok(Opened {
         lengths: lengths_of(alloc, &mut disk)?,
         disk,

@@ -10,12 +10,12 @@ use Rattle.bk_ledgers.specs.Recording.{IsRefusal, IsSure, RecordsNone}
 
 -- a write that failed, and what happened since
 pub refused : (more : List Fact) (m a m' : Kept) (e : ManifestError) → FailsExactlyIf m.failures a.failures (IsErrOf {T = Unit {0}} (Err e) error.Disk)
-    → ((fault : Fault) → IsErrOf {T = Unit {0}} (Err e) (error.Fault fault) → ⊥) → (IsErrOf {T = Unit {0}} (Err e) error.TooLong → AreFacts more → 2 ^ 63 ≤ m.stop) → m.stop ≤ m'.stop
+    → ((fault : Fault) → IsErrOf {T = Unit {0}} (Err e) (error.Fault fault) → ⊥) → (IsErrOf {T = Unit {0}} (Err e) error.TooLong → AreFacts more → ⊥)
     → a.failures ≤ m'.failures → IsRefusal more m m' e
-refused more m a m' error.Memory fails none long up later = tt
-refused more m a m' error.Disk fails none long up later = omega (arith, fails.failed refl, later)
-refused more m a m' error.TooLong fails none long up later = λ are. omega (arith, long refl are, up)
-refused more m a m' (error.Fault fault) fails none long up later = absurd (none fault refl)
+refused more m a m' error.Memory fails none long later = tt
+refused more m a m' error.Disk fails none long later = omega (arith, fails.failed refl, later)
+refused more m a m' error.TooLong fails none long later = λ are. absurd (long refl are)
+refused more m a m' (error.Fault fault) fails none long later = absurd (none fault refl)
 
 -- A record is noted still, or the file was settled.
 pub sure : (m a m' : Kept) (settled : Result (Unit {0}) ManifestError) → m.pending ≢ [] → a.pending ≡ m.pending

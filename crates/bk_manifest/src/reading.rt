@@ -9,7 +9,7 @@ ghost use Rattle.bk_manifest.specs.File.{Content, content, content_of, generatio
 use crate::checksum::checksum;
 use crate::fields::record_at;
 use crate::piece::{AROUND, BATCH_HEAD, Piece, is_torn, number_at, read_piece};
-use crate::{Fault, ReadError, Record};
+use crate::{Fault, Mark, ReadError, Record};
 use std::alloc::Global;
 
 /// Length of the header in bytes: magic, version, generation, and a checksum of these.
@@ -32,6 +32,21 @@ pub struct Contents {
     pub end: usize,
     /// Number of torn bytes after that position; they are no records.
     pub torn: usize,
+}
+
+impl Contents {
+    ghost use Rattle.std.specs.Prelude.{◌≡◌};
+
+    /// Returns how far the manifest reaches.
+    pub fn mark(&self) -> Mark
+        ensures generation { result.generation ≡ self.now.generation }
+        ensures length { result.length ≡ self.now.end }
+    {
+        Mark {
+            generation: self.generation,
+            length: self.end as u64,
+        }
+    }
 }
 
 /// Returns the records of a body.
