@@ -3,9 +3,10 @@
 ghost use Rattle.std.specs.Prelude.{◌≡◌, IsTrue};
 
 use crate::Reach;
+use crate::reach::mark_of;
 use crate::recording::{durable_length, has_length, make_sure, note_mark, record, shorten};
 use bk_disk::{CutDisk, DiskFault, LogDisk};
-use bk_manifest::{Manifest, ManifestFile, Mark, Record};
+use bk_manifest::{Manifest, ManifestFile, Record};
 use std::alloc::Global;
 use std::marker::Model;
 
@@ -76,14 +77,6 @@ impl<D: LogDisk, F: ManifestFile> KeptDisk<D, F> {
         ensures { self.new ≡ self.old }
     {
         self.ledgers = Some(ledgers);
-    }
-
-    /// Returns the mark of the manifest of the ledgers.
-    fn mark(&self) -> Option<Mark> {
-        match &self.ledgers {
-            Some(ledgers) => ledgers.mark(),
-            None => None,
-        }
     }
 
     /// Returns the inner disk, which has the same files.
@@ -188,8 +181,7 @@ impl<D: LogDisk, F: ManifestFile + Send> LogDisk for KeptDisk<D, F> {
         if has_length(self.manifest.state(), log, length) {
             return make_sure(alloc, &mut self.manifest);
         }
-        let mark = self.mark();
-        note_mark(&mut self.manifest, mark);
+        note_mark(&mut self.manifest, mark_of(&self.ledgers));
         record(
             alloc,
             &mut self.manifest,

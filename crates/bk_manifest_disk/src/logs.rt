@@ -1,8 +1,8 @@
 //! The logs of a directory, by the manifest beside them.
 
 use crate::{
-    Fault, KeptDisk, KeptFile, LimitedDisk, ReadFault, Report, Torn, contents_of, copy_torn, file_of,
-    open, read_file,
+    Fault, KeptDisk, KeptFile, LimitedDisk, ReadFault, Report, Torn, contents_of, copy_torn,
+    file_of, open, read_file,
 };
 use bk_disk::DirDisk;
 use bk_manifest::{ManifestError, Mark, State};

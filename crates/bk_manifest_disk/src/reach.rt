@@ -40,7 +40,7 @@ impl Reach {
     }
 
     /// Returns the mark of what is durable; `None` if nothing is.
-    pub(crate) fn mark(&self) -> Option<Mark> {
+    fn mark(&self) -> Option<Mark> {
         match self.length.try_lock() {
             Some(length) if *length > 0 => Some(Mark {
                 generation: self.generation,
@@ -48,5 +48,13 @@ impl Reach {
             }),
             _ => None,
         }
+    }
+}
+
+/// Returns the mark of what is durable of a manifest; `None` if there is none, or nothing is.
+pub(crate) fn mark_of(reach: &Option<Reach>) -> Option<Mark> {
+    match reach {
+        Some(reach) => reach.mark(),
+        None => None,
     }
 }
