@@ -1,5 +1,5 @@
 -- Whether a manifest of ledgers has all that was durable, by the mark of it in the manifest of the logs.
-use Rattle.std.specs.Prelude.{Option, None, Some}
+use Rattle.std.specs.Prelude.{◌≡◌, Option, None, Some}
 use Rattle.bk_manifest.specs.declared.fault.Fault.{Fault}
 use Rattle.bk_manifest.specs.declared.fault.Fault.TheVariants.{Short, BadMagic, Version, BadGeneration, Damaged, UnknownKind, CutRecord, Gone, Behind}
 use Rattle.bk_manifest.specs.declared.mark.Mark.{Mark}

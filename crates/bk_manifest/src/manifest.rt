@@ -268,6 +268,7 @@ impl<F: ManifestFile> Manifest<F> {
         ensures cause { FailsExactlyIf self.old.failures self.new.failures (IsErrOf result ManifestError.Disk) }
         ensures same { IsTrue self.old.honest → durable self.new ≡ durable self.old }
         ensures found { IsTrue self.old.honest → OnOk result (FindsDurable self.new) }
+        ensures finds { IsTrue self.old.honest → FindsDurable self.old → FindsDurable self.new }
         ensures pending { self.new.pending ≡ self.old.pending }
         ensures generation { self.new.generation ≡ self.old.generation }
         ensures stop { self.new.stop ≡ self.old.stop }
@@ -342,6 +343,7 @@ impl<F: ManifestFile> Manifest<F> {
         ensures cause { FailsExactlyIf self.old.failures self.new.failures (IsErrOf result ManifestError.Disk) }
         ensures same { IsTrue self.old.honest → durable self.new ≡ durable self.old }
         ensures found { IsTrue self.old.honest → OnOk result (FindsDurable self.new) }
+        ensures finds { IsTrue self.old.honest → FindsDurable self.old → FindsDurable self.new }
         ensures none { OnOk result (self.new.pending ≡ []) }
         ensures kept { OnErr result (self.new.pending ≡ self.old.pending) }
         ensures generation { self.new.generation ≡ self.old.generation }
