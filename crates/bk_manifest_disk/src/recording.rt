@@ -12,6 +12,20 @@ use bk_disk::DiskFault;
 use bk_manifest::{LogState, Manifest, ManifestError, ManifestFile, Mark, Record, State};
 use std::alloc::Global;
 
+/// Returns what a disk answers if its manifest answers so.
+fn answer_of(answer: Result<(), ManifestError>) -> Result<(), DiskFault>
+    ensures ok { OnOk result (IsOk answer) }
+    ensures err { OnErr result (IsErr answer) }
+    ensures disk { IsErrOf result DiskFault.Disk ↔ IsErrOf answer ManifestError.Disk }
+    ensures only { OnErr result (IsErrOf result DiskFault.Disk ⊎ IsErrOf result DiskFault.Memory) }
+{
+    match answer {
+        Ok(()) => Ok(()),
+        Err(ManifestError::Disk) => Err(DiskFault::Disk),
+        Err(_) => Err(DiskFault::Memory),
+    }
+}
+
 /// Makes a record durable, with those that are noted.
 ///
 /// # Errors
@@ -36,11 +50,7 @@ pub(crate) fn record<F: ManifestFile>(
     if manifest.note(one).is_err() {
         return Err(DiskFault::Memory);
     }
-    match manifest.commit(alloc) {
-        Ok(()) => Ok(()),
-        Err(ManifestError::Disk) => Err(DiskFault::Disk),
-        Err(_) => Err(DiskFault::Memory),
-    }
+    answer_of(manifest.commit(alloc))
 }
 
 /// Makes the durable records so, if the manifest was found and not written yet.
@@ -63,11 +73,7 @@ pub(crate) fn make_sure<F: ManifestFile>(
     if manifest.is_written() {
         return Ok(());
     }
-    match manifest.settle(alloc) {
-        Ok(()) => Ok(()),
-        Err(ManifestError::Disk) => Err(DiskFault::Disk),
-        Err(_) => Err(DiskFault::Memory),
-    }
+    answer_of(manifest.settle(alloc))
 }
 
 /// Notes how far the manifest of the ledgers is durable, unless the last record has that or an
