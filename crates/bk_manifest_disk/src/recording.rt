@@ -1,6 +1,6 @@
 //! One record more in a manifest.
 
-ghost use Rattle.std.specs.Prelude.{unwrap_or, true, ◌≡◌, ◌↔◌, Some, ◌⊎◌, ◌++◌, ◌∷◌, [], IsTrue, IsErrOf, OnOk, OnErr};
+ghost use Rattle.std.specs.Prelude.{unwrap_or, true, ◌≡◌, ◌↔◌, Some, ◌⊎◌, ◌++◌, ◌∷◌, [], IsTrue, IsErrOf, OnOk, OnErr, is_ok};
 ghost use Rattle.bk_disk.specs.Disk.{FailsExactlyOnDiskFault};
 ghost use Rattle.bk_manifest.specs.Fact.{fact};
 ghost use Rattle.bk_manifest.specs.Keeping.{durable};
@@ -14,8 +14,7 @@ use std::alloc::Global;
 
 /// Returns what a disk answers if its manifest answers so.
 fn answer_of(answer: Result<(), ManifestError>) -> Result<(), DiskFault>
-    ensures ok { OnOk result (IsOk answer) }
-    ensures err { OnErr result (IsErr answer) }
+    ensures ok { is_ok result ≡ is_ok answer }
     ensures disk { IsErrOf result DiskFault.Disk ↔ IsErrOf answer ManifestError.Disk }
     ensures only { OnErr result (IsErrOf result DiskFault.Disk ⊎ IsErrOf result DiskFault.Memory) }
 {
