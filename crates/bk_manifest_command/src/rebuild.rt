@@ -88,7 +88,7 @@ fn fault_in(
     bytes: &[u8],
 ) -> Result<Option<Fault>, ManifestFault> {
     if bytes.is_empty() {
-        return Ok(mark.map(Fault::Gone));
+        return Ok(mark.map(|mark| Fault::Gone(mark)));
     }
     match read_manifest(alloc, bytes) {
         Ok(contents) => Ok(check_reach(mark, Some(contents.mark())).err()),
