@@ -147,6 +147,7 @@ fn work_of<E: Write>(
     } = opened;
     book.tell_torn(form, errors);
     ignored.tell(form, errors);
+    book.settle()?;
     let dead = book.delete_all(named)?.deleted;
     let kept = kept_logs(rt, path, &lengths)?;
     tell_kept(rt.alloc(), form, &kept, &lengths, errors)?;

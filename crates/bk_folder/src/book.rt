@@ -6,7 +6,7 @@ ghost use Rattle.bk_folder.specs.Books.{is_unrecorded};
 use bk_disk::{DirDisk, DiskFault};
 use bk_drive::{Recorder, Step};
 use bk_inspect::Form;
-use bk_ledgers::{LEDGERS, Listed, Torn, open_ledgers, record_deletions};
+use bk_ledgers::{LEDGERS, Listed, Torn, open_ledgers, record_deletions, settle};
 use bk_manifest::ManifestError;
 use bk_manifest_disk::{KeptFile, Reach};
 use bk_messages::{BookFault, FailedCalls, write_row};
@@ -119,6 +119,20 @@ impl Book {
         match &self.recorder {
             Some(recorder) => recorder.ledgers(),
             None => Ok(Listed::none(self.alloc)),
+        }
+    }
+
+    /// Makes the recorded deletions durable, if they may not be, before an entry is removed by them.
+    ///
+    /// # Errors
+    ///
+    /// - `Disk`, `Memory`: some may not be durable.
+    pub fn settle(&mut self) -> Result<(), BookFault>
+        ensures { is_unrecorded self.new ≡ is_unrecorded self.old }
+    {
+        match &mut self.recorder {
+            Some(recorder) => Ok(settle(self.alloc, &mut recorder.manifest)?),
+            None => Ok(()),
         }
     }
 
