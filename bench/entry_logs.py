@@ -11,9 +11,9 @@ NAME = re.compile(r"(0|[1-9a-f][0-9a-f]{0,7})\.log")
 LAST_LOG = 0x7FFFFFFF
 # The files of durable lengths and of ledgers, their header, and what is around the body of a batch: size and two checksums.
 MANIFEST, LEDGERS, MANIFEST_HEADER, BATCH = "logs.manifest", "ledgers.manifest", 24, 12
-# Sizes of records, by kind: a log is made, durable, removed; a ledger is deleted, fenced.
-SIZES = {1: 5, 2: 13, 3: 13, 4: 9, 5: 9}
-DELETED = 4
+# Sizes of records, by kind: a log is made, durable, removed; a ledger is deleted, fenced; the ledgers are marked.
+SIZES = {1: 5, 2: 13, 3: 13, 4: 9, 5: 9, 7: 17}
+MADE, LOGS, DELETED = 1, (1, 2, 3), 4
 
 
 def number(data, at, size):
@@ -47,7 +47,7 @@ def durable_lengths(path):
         return {}
     with open(file, "rb") as opened:
         records = manifest_records(opened.read())
-    return {number(it, 1, 4): number(it, 5, 8) if it[0] != 1 else 0 for it in records}
+    return {number(it, 1, 4): number(it, 5, 8) if it[0] != MADE else 0 for it in records if it[0] in LOGS}
 
 
 def deleted_ledgers(data):

@@ -18,6 +18,7 @@ KINDS = {
     4: ("deleted", ">Q"),
     5: ("fenced", ">Q"),
     6: ("attribute", ">QII"),
+    7: ("marked", ">QQ"),
 }
 NUMBERS = {name: (number, fields) for number, (name, fields) in KINDS.items()}
 # Kinds of attributes.
@@ -98,9 +99,11 @@ def records(path):
 
 def state(found):
     """Returns what records mean: the last of each log, ledgers deleted and fenced, and attributes,
-    by subject."""
+    by subject. Marks of another manifest are passed over."""
     meant = {}
     for kind, subject, *fields in found:
+        if kind == "marked":
+            continue
         about = "log" if kind in ("made", "durable", "removed") else kind
         if kind == "attribute":
             meant[about, subject, fields[0]] = fields[1]
@@ -111,3 +114,9 @@ def state(found):
 
 def state_of(path):
     return state(records(path))
+
+
+def mark_of(path):
+    """Returns the last mark of another manifest, its generation and length; None without one."""
+    marks = [tuple(fields) for kind, *fields in records(path) if kind == "marked"]
+    return marks[-1] if marks else None

@@ -145,13 +145,36 @@ class Ledgers(kit.Case):
             self.path.write_bytes(self.data[:size])
             self.assertTrue(self.is_told(), size)
 
-    @unittest.expectedFailure  # an empty one is taken beside a manifest of logs with records
     def test_empty(self):
+        self.publish("3 0 three")
         self.path.write_bytes(b"")
         self.assert_told()
 
-    @unittest.expectedFailure  # a manifest that ends before a batch is opened without a word
+    def test_missing(self):
+        self.publish("3 0 three")
+        self.path.unlink()
+        self.assert_told()
+
+    def test_earlier_generation(self):
+        self.publish("3 0 three")
+        logs = self.logs / "logs.manifest"
+        generation, length = manifest_files.mark_of(logs)
+        self.assertEqual(length, len(self.path.read_bytes()))
+        self.path.write_bytes(manifest_files.written(generation + 1, FENCES[:1]))
+        self.assertEqual(self.script("holds 2 0", "fenced 1"), ["no", "no"])
+        logs.write_bytes(manifest_files.written(9, manifest_files.records(logs), [("marked", 7, 1)]))
+        self.assert_told()
+
+    def test_rebuild_is_the_way_on(self):
+        self.publish("3 0 three")
+        self.path.write_bytes(self.data[: manifest_files.batches(self.data)[1][1][0]])
+        errors = self.bookie("script", "--folder", self.logs, status=1)[1]
+        self.assertIn("manifest --rebuild", errors)
+        self.bookie("manifest", "--rebuild", self.logs)
+        self.assertEqual(self.script("holds 2 0", "fenced 1"), ["no", "no"])
+
     def test_cut_at_each_batch(self):
+        self.publish("3 0 three")
         for at, _ in manifest_files.batches(self.data)[1]:
             self.path.write_bytes(self.data[:at])
             self.assert_told()

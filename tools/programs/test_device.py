@@ -108,14 +108,12 @@ class Sync(kit.Case):
         self.close(opened)
         self.assertEqual(self.serve().read(1, 1), b"more")
 
-    @unittest.expectedFailure  # each later change of the session is refused
     def test_manifest_of_ledgers_heals(self):
         opened = self.failing("ledgers.manifest", 2)
         ledger = self.until_refused(opened, "fence", fence=1)
         self.assertEqual(opened.call("fence", ledger=ledger + 1).name, "fenced_now")
         self.assertEqual(opened.add(1, b"more", first=1), ["accepted"])
 
-    @unittest.expectedFailure  # each later flush of the session is refused
     def test_manifest_of_logs_heals(self):
         opened = self.failing("logs.manifest", 3)
         self.until_refused(opened, "flush")
@@ -219,6 +217,29 @@ class Full(kit.Case):
         self.logs = copy
         self.assertEqual(self.script("holds 1 0", "holds 2 0", "holds 3 0"), ["yes", "yes", "no"])
         self.assertEqual(manifest_files.state_of(copy / "logs.manifest")["log", 0][0], "durable")
+
+    def test_directory_that_was_closed_in_order_opens(self):
+        """Its manifests cannot be written anew: reads go on, and changes are refused until they
+        can."""
+        logs = self.room / "disk" / "closed"
+        for it in self.files():
+            (self.logs / it).unlink()
+        self.logs = logs
+        self.publish("1 0 hello", after=["fence 9"])
+        fill = self.room / "disk" / "fill"
+        with fill.open("wb", buffering=0) as file:
+            while True:
+                try:
+                    file.write(bytes(512))
+                except OSError:
+                    break
+        out, _ = self.bookie(
+            "script", "--folder", logs, steps="holds 1 0\nfenced 9\nfence 9\nfence 8\n"
+        )
+        self.assertEqual(out.splitlines()[:2], ["yes", "yes"])
+        self.assertEqual(out.splitlines()[2:], ["fault disk", "fault disk"])
+        fill.unlink()
+        self.assertEqual(self.script("fence 8", "fenced 9"), ["fenced", "yes"])
 
     @unittest.expectedFailure  # it copies a log that has no durable byte, and has no room
     def test_script_opens_it(self):

@@ -147,6 +147,7 @@ fn work_of<E: Write>(
     } = opened;
     book.tell_torn(form, errors);
     ignored.tell(form, errors);
+    book.settle()?;
     let dead = book.delete_all(named)?.deleted;
     let kept = kept_logs(rt, path, &lengths)?;
     tell_kept(rt.alloc(), form, &kept, &lengths, errors)?;
@@ -191,8 +192,8 @@ fn kept_work(
     failed: FailedCalls,
 ) -> Result<Opened, CommandFault> {
     let mut disk = disk;
-    let book = Book::open(alloc, &mut disk, &failed)?;
-    let (mut disk, ignored) = FolderDisk::kept(alloc, disk, hints)?;
+    let mut book = Book::open(alloc, &mut disk, &failed)?;
+    let (mut disk, ignored) = FolderDisk::kept(alloc, disk, hints, book.take_reach())?;
     Ok(Opened {
         lengths: lengths_of(alloc, &mut disk)?,
         disk,

@@ -6,9 +6,9 @@ ghost use Rattle.bk_folder.specs.Books.{is_unrecorded};
 use bk_disk::{DirDisk, DiskFault};
 use bk_drive::{Recorder, Step};
 use bk_inspect::Form;
-use bk_ledgers::{LEDGERS, Listed, Torn, open_ledgers, record_deletions};
+use bk_ledgers::{LEDGERS, Listed, Torn, open_ledgers, record_deletions, settle};
 use bk_manifest::ManifestError;
-use bk_manifest_disk::KeptFile;
+use bk_manifest_disk::{KeptFile, Reach};
 use bk_messages::{BookFault, FailedCalls, write_row};
 use bk_record::LAST_ID;
 use bk_recorded::LedgerRecorder;
@@ -26,6 +26,8 @@ pub struct Book {
     recorder: Option<LedgerRecorder<KeptFile>>,
     /// The manifest's end that is no records.
     torn: Option<Torn>,
+    /// How far the manifest is durable, until a disk takes it to mark that.
+    reach: Option<Reach>,
     /// The calls that failed on the disk.
     failed: Option<FailedCalls>,
 }
@@ -79,6 +81,7 @@ impl Book {
             alloc,
             recorder: Some(LedgerRecorder::new(alloc, opened.manifest)),
             torn: opened.torn,
+            reach: Some(opened.reach),
             failed: Some(failed.share()?),
         })
     }
@@ -91,8 +94,14 @@ impl Book {
             alloc,
             recorder: None,
             torn: None,
+            reach: None,
             failed: None,
         }
+    }
+
+    /// Returns how far the manifest is durable, once, for the disk of the logs to mark.
+    pub fn take_reach(&mut self) -> Option<Reach> {
+        self.reach.take()
     }
 
     /// Reports that the manifest ended torn, if it did. A failed write is ignored.
@@ -110,6 +119,20 @@ impl Book {
         match &self.recorder {
             Some(recorder) => recorder.ledgers(),
             None => Ok(Listed::none(self.alloc)),
+        }
+    }
+
+    /// Makes the recorded deletions durable, if they may not be, before an entry is removed by them.
+    ///
+    /// # Errors
+    ///
+    /// - `Disk`, `Memory`: some may not be durable.
+    pub fn settle(&mut self) -> Result<(), BookFault>
+        ensures { is_unrecorded self.new ≡ is_unrecorded self.old }
+    {
+        match &mut self.recorder {
+            Some(recorder) => Ok(settle(self.alloc, &mut recorder.manifest)?),
+            None => Ok(()),
         }
     }
 

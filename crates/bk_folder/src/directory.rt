@@ -144,11 +144,11 @@ fn open_recorded(
     let alloc = rt.alloc();
     let mut disk = disk;
     let watch = disk.fault_watch(alloc)?;
-    let book = match Book::open(alloc, &mut disk, &failed) {
+    let mut book = match Book::open(alloc, &mut disk, &failed) {
         Ok(book) => book,
         Err(fault) => return Err(of_book(alloc, fault, &watch)),
     };
-    match FolderDisk::kept(alloc, disk, hints) {
+    match FolderDisk::kept(alloc, disk, hints, book.take_reach()) {
         Ok((disk, ignored)) => Ok(Opening {
             disk: OpeningDisk::new(rt, disk, failed),
             book,

@@ -10,7 +10,7 @@ use bk_hint_disk::{HintedDisk, UnusedWatch};
 use bk_hint_folder::FolderHints;
 use bk_hint_view::HintedView;
 use bk_manifest_disk as manifest;
-use bk_manifest_disk::{KeptDisk, KeptFile, LimitedDisk, LimitedView, open_logs};
+use bk_manifest_disk::{KeptDisk, KeptFile, LimitedDisk, LimitedView, Reach, open_logs};
 use std::alloc::{AllocError, Global};
 use std::collections::BTreeMap;
 
@@ -44,7 +44,8 @@ impl FolderDisk {
     }
 
     /// Opens the logs of a directory to be written by their manifest, which is made if there is none.
-    /// Returns also what the manifest ignores of them.
+    /// Returns also what the manifest ignores of them. Marks in it how far the manifest of the ledgers
+    /// is durable, if its reach is given.
     ///
     /// # Errors
     ///
@@ -53,8 +54,12 @@ impl FolderDisk {
         alloc: Global,
         disk: DirDisk,
         hints: FolderHints,
+        ledgers: Option<Reach>,
     ) -> Result<(FolderDisk, Ignored), manifest::Fault> {
-        let (disk, ignored) = Ignored::split(alloc, open_logs(alloc, disk)?);
+        let (mut disk, ignored) = Ignored::split(alloc, open_logs(alloc, disk)?);
+        if let Some(reach) = ledgers {
+            disk.follow(reach);
+        }
         let disk = HintedDisk::new(alloc, disk, hints);
         Ok((FolderDisk::Kept(disk), ignored))
     }

@@ -1,2 +1,3 @@
 pub mod Listed
 pub mod Recording
+pub mod Reaching

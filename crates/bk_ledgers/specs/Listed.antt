@@ -1,7 +1,7 @@
 -- The ledgers that records name.
 use Rattle.std.specs.Prelude.{ℕ, List, [], ◌∷◌}
 use Rattle.std.specs.List.{flat_map}
-use Rattle.bk_manifest.specs.Fact.{Fact, made_log, durable_log, removed_log, deleted_ledger, fenced_ledger, attribute}
+use Rattle.bk_manifest.specs.Fact.{Fact, made_log, durable_log, removed_log, deleted_ledger, fenced_ledger, attribute, marked_ledgers}
 
 -- the ledger of which a record is the deletion
 abbrev pub deletion : Fact → List ℕ
@@ -11,6 +11,7 @@ deletion (removed_log log length) = []
 deletion (deleted_ledger ledger) = ledger ∷ []
 deletion (fenced_ledger ledger) = []
 deletion (attribute ledger kind bytes) = []
+deletion (marked_ledgers generation length) = []
 
 -- the ledger of which a record is the fence
 abbrev pub fence : Fact → List ℕ
@@ -20,6 +21,7 @@ fence (removed_log log length) = []
 fence (deleted_ledger ledger) = []
 fence (fenced_ledger ledger) = ledger ∷ []
 fence (attribute ledger kind bytes) = []
+fence (marked_ledgers generation length) = []
 
 -- the ledgers whose deletion is recorded, in the order of the records, and those whose fence is
 abbrev pub deletions : List Fact → List ℕ

@@ -17,6 +17,7 @@ pub record Records (more : List Fact) (m m' : Kept) : Type 0 where
   pub honest : m'.honest ≡ m.honest
   pub recorded : IsTrue m.honest → durable m' ≡ durable m ++ more
   pub none : m'.pending ≡ []
+  pub written : m'.written ≡ true
   pub found : IsTrue m.honest → FindsDurable m'
 
 -- No further record is durable.
@@ -45,19 +46,22 @@ RecordsTransition more m (Err refusal) m' = IsRefusal more m m' refusal × Recor
 abbrev pub RecordTransition : Fact → Kept → Result (Unit {0}) ManifestError → Kept → Type 0
 RecordTransition one m result m' = RecordsTransition (one ∷ []) m result m'
 
--- A record about the subject is durable already.
-abbrev pub IsRecorded : Subject → Kept → Type 0
-IsRecorded subject m = IsTrue m.honest → is_some (last_about subject (durable m)) ≡ true
+-- A record about the subject is durable already, in a manifest that was written.
+pub record IsRecorded (subject : Subject) (m m' : Kept) : Type 0 where
+  pub there : IsTrue m.honest → is_some (last_about subject (durable m)) ≡ true
+  pub written : m'.written ≡ true
+  pub none : RecordsNone m m'
 
--- The record becomes durable, unless one about its subject is: then nothing changes. Or it does not, for
--- this reason.
+-- The record becomes durable, unless one about its subject is: then no further record is. Or it does
+-- not, for this reason.
 abbrev pub OnceTransition : Fact → Subject → Kept → Result (Unit {0}) ManifestError → Kept → Type 0
-OnceTransition one subject m (Ok done_) m' = Records (one ∷ []) m m' ⊎ (IsRecorded subject m × (m' ≡ m))
+OnceTransition one subject m (Ok done_) m' = Records (one ∷ []) m m' ⊎ IsRecorded subject m m'
 OnceTransition one subject m (Err refusal) m' = IsRefusal (one ∷ []) m m' refusal × RecordsNone m m'
 
--- No refused record may be in the file any more, or one may still be, for this reason.
+-- The durable records were written, and no refused one may be in the file any more, or one may still be,
+-- for this reason.
 abbrev pub SettleTransition : Kept → Result (Unit {0}) ManifestError → Kept → Type 0
-SettleTransition m (Ok done_) m' = (m'.pending ≡ []) × (m.stop ≤ m'.stop) × (m.failures ≤ m'.failures) × RecordsNone m m'
+SettleTransition m (Ok done_) m' = (m'.pending ≡ []) × (m.stop ≤ m'.stop) × (m.failures ≤ m'.failures) × RecordsNone m m' × (m'.written ≡ true)
 SettleTransition m (Err refusal) m' = IsRefusal [] m m' refusal × RecordsNone m m'
 
 -- The noted records are durable, or none of them is, for this reason.

@@ -4,10 +4,12 @@
 mod directory;
 mod listed;
 mod once;
+mod reaching;
 mod recording;
 
-pub use bk_manifest_disk::{Read, ReadFault, Torn, read_file};
-pub use directory::{LEDGERS, Opened, open_ledgers, read_ledgers};
+pub use bk_manifest_disk::{Reach, Read, ReadFault, Torn, read_file};
+pub use directory::{LEDGERS, Opened, open_ledgers, read_ledgers, read_marked};
 pub use listed::{Listed, ledgers_of};
 pub use once::{record_deletion, record_fence};
+pub use reaching::check_reach;
 pub use recording::{record, record_deletions, settle};

@@ -37,7 +37,8 @@ impl Listed {
             Record::MadeLog(_)
             | Record::DurableLog { .. }
             | Record::RemovedLog { .. }
-            | Record::Attribute { .. } => {}
+            | Record::Attribute { .. }
+            | Record::MarkedLedgers(_) => {}
         }
         Ok(())
     }

@@ -4,11 +4,12 @@ ghost use Rattle.bk_manifest.specs.Fact.{deleted_ledger, fenced_ledger};
 ghost use Rattle.bk_manifest.specs.State.{the_deletion, the_fence};
 ghost use Rattle.bk_ledgers.specs.Recording.{OnceTransition};
 
-use crate::record;
+use crate::{record, settle};
 use bk_manifest::{Manifest, ManifestError, ManifestFile, Record};
 use std::alloc::Global;
 
-/// Makes the deletion of a ledger durable, unless it is. Errors as `record`.
+/// Makes the deletion of a ledger durable, unless it is. Takes records back first that were refused.
+/// Errors as `record`.
 pub fn record_deletion<F: ManifestFile>(
     alloc: Global,
     manifest: &mut Manifest<F>,
@@ -17,12 +18,13 @@ pub fn record_deletion<F: ManifestFile>(
     ensures { OnceTransition (deleted_ledger ledger) (the_deletion ledger) manifest.old result manifest.new }
 {
     if manifest.state().is_deleted(ledger) {
-        return Ok(());
+        return settle(alloc, manifest);
     }
     record(alloc, manifest, Record::DeletedLedger(ledger))
 }
 
-/// Makes the fence of a ledger durable, unless it is. Errors as `record`.
+/// Makes the fence of a ledger durable, unless it is. Takes records back first that were refused.
+/// Errors as `record`.
 pub fn record_fence<F: ManifestFile>(
     alloc: Global,
     manifest: &mut Manifest<F>,
@@ -31,7 +33,7 @@ pub fn record_fence<F: ManifestFile>(
     ensures { OnceTransition (fenced_ledger ledger) (the_fence ledger) manifest.old result manifest.new }
 {
     if manifest.state().is_fenced(ledger) {
-        return Ok(());
+        return settle(alloc, manifest);
     }
     record(alloc, manifest, Record::FencedLedger(ledger))
 }

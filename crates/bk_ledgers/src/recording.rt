@@ -7,13 +7,14 @@ ghost use Rattle.bk_ledgers.specs.Recording.{CommitTransition, RecordTransition,
 use bk_manifest::{Manifest, ManifestError, ManifestFile, Record};
 use std::alloc::Global;
 
-/// Takes records back that were refused and may be in the file, if there are any.
+/// Takes records back that were refused and may be in the file, if there are any: the file is written
+/// anew if a call on it failed, or if it was found and not written yet.
 ///
 /// # Errors
 ///
 /// The records stay noted, and may be in the file.
 ///
-/// - `Disk` if the device fails; `TooLong` if the file would be too long.
+/// - `Disk` if the device fails.
 /// - `Memory` if an allocation is refused.
 pub fn settle<F: ManifestFile>(
     alloc: Global,
@@ -21,20 +22,18 @@ pub fn settle<F: ManifestFile>(
 ) -> Result<(), ManifestError>
     ensures { SettleTransition manifest.old result manifest.new }
 {
-    if manifest.noted().is_empty() {
-        return Ok(());
-    }
     manifest.withdraw(alloc)
 }
 
-/// Makes a record durable. If that fails, takes it back; if this fails too, the record stays noted
-/// and may be in the file: the next call takes it back first.
+/// Makes a record durable. If that fails, takes it back, so that no later opening finds it. If this
+/// fails too, the record stays noted (`Manifest::noted`) and may be in the file, and an opening may find
+/// it: the next call takes it back first.
 ///
 /// # Errors
 ///
 /// The record is not durable.
 ///
-/// - `Disk` if the device fails; `TooLong` if the file would be too long.
+/// - `Disk` if the device fails; `TooLong` if the record has too many bytes.
 /// - `Memory` if an allocation is refused.
 pub fn record<F: ManifestFile>(
     alloc: Global,

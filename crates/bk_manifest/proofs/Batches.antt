@@ -62,5 +62,5 @@ pub ended : (generation : ℕ) (file : List ℕ) (front : List Fact) (place : �
 ended generation file front place total inside ends left =
     elim ends [
       | inl cut ↦ batches_cut generation file front place total inside cut left
-      | inr torn ↦ batches_torn generation file front place total inside torn.0 torn.1 left
+      | inr torn ↦ batches_torn generation file front place torn.0 total inside torn.1 torn.2 left
     ]

@@ -1,11 +1,11 @@
 -- What is believed of a manifest's file, over the calls on it.
-use Rattle.std.proofs.Common.{◌≡◌, ℕ, ◌+◌, ◌^◌, ◌<◌, ◌≤◌, min, Bool, true, false, cond, List, [], ◌∷◌, ◌++◌, length, take, drop, refl, sym, ap, subst, ◌∙◌, append_assoc, arith, inl}
+use Rattle.std.proofs.Common.{◌≡◌, ℕ, ◌+◌, ◌^◌, ◌<◌, ◌≤◌, min, Bool, true, false, cond, List, [], ◌∷◌, ◌++◌, length, take, drop, refl, sym, ap, subst, ◌∙◌, append_assoc, arith, inl, inr}
 use Rattle.std.specs.List.{AllByRecursion}
 use Rattle.std.proofs.lemmas.List.{append-nil, length-append, length-take, length-take-le, length-drop, take-take, take_at, take_all, nil_from_length}
 use Rattle.bk_manifest.specs.Fact.{Fact, body_of, AreFacts}
 use Rattle.bk_manifest.specs.Batch.{batch_of, batches_from}
 use Rattle.bk_manifest.specs.File.{written, header_of, Content, content_of, all_facts, IsManifest}
-use Rattle.bk_manifest.specs.Keeping.{IsSameFile, KeepsFront, facts_found, IsBelieved}
+use Rattle.bk_manifest.specs.Keeping.{IsSameFile, IsOldOrNew, KeepsFront, facts_found, IsBelieved, HasFront}
 use Rattle.bk_manifest.proofs.Pieces.{short_cut, length-batch}
 use Rattle.bk_manifest.proofs.Files.{length-header}
 use Rattle.bk_manifest.proofs.Found.{manifest_again}
@@ -66,6 +66,37 @@ same_front at bytes bytes' synced synced' same = record { front = ap (take at) s
 pub front_twice : (at : ℕ) (a b d : List ℕ) (m n k : ℕ) → KeepsFront at a m b n → KeepsFront at b n d k → KeepsFront at a m d k
 front_twice at a b d m n k p q = record { front = q.front ∙ p.front; durable = λ i low has. q.durable i low (p.durable i low has) }
 
+-- the old file or a new one that is the front keeps the front
+pub old_or_new_front : (front whole bytes bytes' : List ℕ) (synced synced' : ℕ) → whole ≡ front → take (length front) bytes ≡ front
+    → IsOldOrNew bytes synced whole bytes' synced' → KeepsFront (length front) bytes synced bytes' synced'
+old_or_new_front front whole bytes bytes' synced synced' is begins (inl old) = same_front (length front) bytes bytes' synced synced' old
+old_or_new_front front whole bytes bytes' synced synced' is begins (inr new) = record {
+  front = ap (take (length front)) (new.0 ∙ is) ∙ take_all (length front) front (omega arith) ∙ sym begins;
+  durable = λ n low has. omega (arith, new.1, ap length is);
+}
+
+-- a file that has the same front begins with it
+pub front_stays : (bytes bytes' front : List ℕ) (generation : ℕ) → HasFront bytes front generation → take (length front) bytes' ≡ take (length front) bytes
+    → HasFront bytes' front generation
+front_stays bytes bytes' front generation b same = record {
+  front_is = same ∙ b.front_is;
+  whole = still_believed bytes bytes' (length front) (length front) generation (length front) b.whole (record { front = same; durable = λ n low has. low });
+}
+
+-- the front of a file is durable too
+pub front_durable : (bytes front : List ℕ) (synced generation : ℕ) → HasFront bytes front generation → length front ≤ synced
+    → IsBelieved bytes synced generation (length front)
+front_durable bytes front synced generation b covered = record {
+  covered = covered;
+  inside = b.whole.inside;
+  batches = b.whole.batches;
+  whole = b.whole.whole;
+}
+
+-- a file that is the front and no more
+pub file_is_front : (bytes front : List ℕ) → take (length front) bytes ≡ front → length bytes ≡ length front → bytes ≡ front
+file_is_front bytes front begins alone = sym (take_all (length front) bytes (omega (arith, alone))) ∙ begins
+
 -- a new manifest
 pub header_believed : (bytes : List ℕ) (synced generation : ℕ) → generation < 2 ^ 64 → bytes ≡ header_of generation → length bytes ≤ synced
     → IsBelieved bytes synced generation 24
@@ -79,6 +110,23 @@ pub none_durable : (bytes : List ℕ) (synced generation : ℕ) → generation <
     → facts_found (content_of (take 24 bytes)) ≡ []
 unfolding header_believed front_believed
 none_durable bytes synced generation small is all = durable_are bytes synced generation 24 (header_believed bytes synced generation small is all)
+
+-- a new file that is a header
+pub header_front : (bytes front : List ℕ) (generation : ℕ) → generation < 2 ^ 64 → front ≡ header_of generation → bytes ≡ front → HasFront bytes front generation
+header_front bytes front generation small front_is is =
+    let size : length front ≡ 24 = ap length front_is ∙ length-header generation in
+    let b = header_believed bytes (length front) generation small (is ∙ front_is) (omega (arith, ap length is)) in
+    record {
+      front_is = take_all (length front) bytes (omega (arith, ap length is)) ∙ is;
+      whole = subst (λ (n : ℕ). IsBelieved bytes (length front) generation n) (sym size) b;
+    }
+
+pub header_has_none : (bytes front : List ℕ) (generation : ℕ) → generation < 2 ^ 64 → front ≡ header_of generation → bytes ≡ front
+    → facts_found (content_of (take (length front) bytes)) ≡ []
+header_has_none bytes front generation small front_is is =
+    let size : length front ≡ 24 = ap length front_is ∙ length-header generation in
+    ap (λ (n : ℕ). facts_found (content_of (take n bytes))) size
+    ∙ none_durable bytes (length front) generation small (is ∙ front_is) (omega (arith, ap length is))
 
 -- a manifest that was read, and is durable
 pub record IsOpened (bytes : List ℕ) (synced : ℕ) (found : Content) : Type 0 where
@@ -95,6 +143,26 @@ opened bytes read synced found same was all =
     let size : length bytes ≡ length (written found.generation was.0) + length m.rest = ap length m.bytes_are ∙ length-append (written found.generation was.0) m.rest in
     let b = front_believed bytes synced found.generation found.stop was.0 m.each m.generation front m.stop (omega (arith, size, m.stop)) (omega (arith, size, m.stop, all)) in
     record { believed = b; records = durable_are bytes synced found.generation found.stop b ∙ sym m.records }
+
+-- the front of a file that was read
+pub record HasFoundFront (bytes front : List ℕ) (found : Content) : Type 0 where
+  pub begins : HasFront bytes front found.generation
+  pub stop : length front ≡ found.stop
+  pub records : facts_found (content_of (take (length front) bytes)) ≡ found.facts
+
+pub found_front : (bytes read front : List ℕ) (found : Content) → bytes ≡ read → (batches : List (List Fact)) × IsManifest read batches found
+    → front ≡ take found.stop read → HasFoundFront bytes front found
+unfolding opened front_believed
+found_front bytes read front found same was is =
+    let o = opened bytes read (length bytes) found same was (omega arith) in
+    let stop : length front ≡ found.stop = omega (arith, ap length is, ap length same, length-take found.stop read, o.believed.inside) in
+    let front_is : take (length front) bytes ≡ front = ap (λ (n : ℕ). take n bytes) stop ∙ ap (take found.stop) same ∙ sym is in
+    let here : IsBelieved bytes (length bytes) found.generation (length front) = subst (λ (n : ℕ). IsBelieved bytes (length bytes) found.generation n) (sym stop) o.believed in
+    record {
+      begins = record { front_is = front_is; whole = record { covered = omega arith; inside = here.inside; batches = here.batches; whole = here.whole } };
+      stop = stop;
+      records = ap (λ (n : ℕ). facts_found (content_of (take n bytes))) stop ∙ o.records;
+    }
 
 -- ---- a rewritten file
 

@@ -7,7 +7,7 @@ use Rattle.bk_manifest.specs.declared.piece.Piece.{Piece}
 use Rattle.bk_manifest.specs.declared.piece.Piece.TheVariants.{Whole, Cut, Misfit}
 use Rattle.bk_manifest.specs.Fact.{Fact, body_of, AreFacts}
 use Rattle.bk_manifest.specs.Reading.{IsBytes, ◌>>=◌, facts_of}
-use Rattle.bk_manifest.specs.Batch.{Found, batch_of, batches_from, piece_at, any_behind, without_batch, after_piece, found_from}
+use Rattle.bk_manifest.specs.Batch.{Found, batch_of, batches_from, piece_at, is_torn, without_batch, after_piece, found_from}
 use Rattle.bk_manifest.specs.File.{written, generation_of, Content, content_of, all_facts, IsEnd, IsManifest, header_of}
 use Rattle.bk_manifest.proofs.ReadFields.{bind_ok, ok_is, IsBytes-drop, IsBytes-take}
 use Rattle.bk_manifest.proofs.Records.{facts_take}
@@ -67,9 +67,9 @@ one_more generation file place size facts others each inside is read rest =
       ends = rest.ends;
     }
 
-torn_end : (behind : Bool) (place : ℕ) (x : Found) → without_batch behind place ≡ Ok x → (behind ≡ false) × (([], place) ≡ x)
-torn_end false place x e = (refl, ok_is ([], place) x e)
-torn_end true place x e = absurd cc
+torn_end : (torn : Bool) (place : ℕ) (x : Found) → without_batch torn place ≡ Ok x → (torn ≡ true) × (([], place) ≡ x)
+torn_end true place x e = (refl, ok_is ([], place) x e)
+torn_end false place x e = absurd cc
 
 -- the step of `found_from`, and what it goes on with
 abbrev then_next : ℕ → ℕ → List ℕ → ℕ → ℕ → Result Found Fault
@@ -80,7 +80,7 @@ by_piece : (piece : Piece) (most generation : ℕ) (file : List ℕ) (place : �
     → ((place' : ℕ) (y : Found) → place' ≤ length file → length file < place' + most → found_from most generation file place' ≡ Ok y
     → IsFoundFrom generation file place' y)
     → piece_at generation place (drop place file) ≡ piece
-    → after_piece piece (any_behind generation file place) place (then_next most generation file place) ≡ Ok x → IsFoundFrom generation file place x
+    → after_piece piece (is_torn generation file place) place (then_next most generation file place) ≡ Ok x → IsFoundFrom generation file place x
 by_piece (Whole size) most generation file place x each inside enough again is e =
     let a = bind_ok (facts_of place (take size (drop (place + 8) file)))
     (λ facts. found_from most generation file (place + (size + 12)) >>= λ others. Ok (facts ++ others.0, others.1)) x e in
@@ -91,9 +91,9 @@ by_piece (Whole size) most generation file place x each inside enough again is e
     let made : Found = (a.0 ++ b.0.0, b.0.1) in
     subst (λ (y : Found). IsFoundFrom generation file place y) (ok_is made x b.2) (one_more generation file place size a.0 b.0 each inside is a.1 rest)
 by_piece Cut most generation file place x each inside enough again is e = nothing_more generation file place x (inl is) (ok_is ([], place) x e)
-by_piece Misfit most generation file place x each inside enough again is e =
-    let t = torn_end (any_behind generation file place) place x e in
-    nothing_more generation file place x (inr (is, t.0)) t.1
+by_piece (Misfit size) most generation file place x each inside enough again is e =
+    let t = torn_end (is_torn generation file place size) place x e in
+    nothing_more generation file place x (inr (size, is, t.0)) t.1
 
 pub found_only : (most generation : ℕ) (file : List ℕ) (place : ℕ) (x : Found) → IsBytes file → place ≤ length file → length file < place + most
     → found_from most generation file place ≡ Ok x → IsFoundFrom generation file place x
@@ -149,9 +149,37 @@ manifest_again file batches x m =
 content_is : (x y : Content) → okay x ≡ okay y → x ≡ y
 content_is x y e = cc
 
+stop_by_piece : (piece : Piece) (most generation : ℕ) (file : List ℕ) (place : ℕ) (x : Found)
+    → ((place' : ℕ) (y : Found) → found_from most generation file place' ≡ Ok y → place' ≤ y.1)
+    → after_piece piece (is_torn generation file place) place (then_next most generation file place) ≡ Ok x → place ≤ x.1
+stop_by_piece (Whole size) most generation file place x again e =
+    let a = bind_ok (facts_of place (take size (drop (place + 8) file)))
+    (λ facts. found_from most generation file (place + (size + 12)) >>= λ others. Ok (facts ++ others.0, others.1)) x e in
+    let b = bind_ok (found_from most generation file (place + (size + 12))) (λ others. Ok (a.0 ++ others.0, others.1)) x a.2 in
+    let made : Found = (a.0 ++ b.0.0, b.0.1) in
+    let rest : place + (size + 12) ≤ b.0.1 = again (place + (size + 12)) b.0 b.1 in
+    subst (λ (y : Found). place ≤ y.1) (ok_is made x b.2) (omega (arith, rest))
+stop_by_piece Cut most generation file place x again e = subst (λ (y : Found). place ≤ y.1) (ok_is ([], place) x e) (omega arith)
+stop_by_piece (Misfit size) most generation file place x again e =
+    subst (λ (y : Found). place ≤ y.1) (torn_end (is_torn generation file place size) place x e).1 (omega arith)
+
+-- no batch that is found ends before the place where it is looked for
+stop_behind : (most generation : ℕ) (file : List ℕ) (place : ℕ) (x : Found) → found_from most generation file place ≡ Ok x → place ≤ x.1
+unfolding found_from
+stop_behind zero generation file place x e = subst (λ (y : Found). place ≤ y.1) (ok_is ([], place) x e) (omega arith)
+stop_behind (suc most) generation file place x e =
+    stop_by_piece (piece_at generation place (drop place file)) most generation file place x (λ place' y e'. stop_behind most generation file place' y e') e
+
+-- what is read of a file that begins with whole batches
+pub record Reaches (generation : ℕ) (batches : List (List Fact)) (x : Content) : Type 0 where
+  pub more : List Fact
+  pub records : x.facts ≡ all_facts batches ++ more
+  pub generation_is : x.generation ≡ generation
+  pub stop : length (written generation batches) ≤ x.stop
+
 -- whatever follows whole batches, their records are the first ones that are read
 pub records_survive : (generation : ℕ) (batches : List (List Fact)) (tail : List ℕ) (x : Content) → AllByRecursion AreFacts batches → generation < 2 ^ 64
-    → content_of (written generation batches ++ tail) ≡ Ok x → (more : List Fact) × (x.facts ≡ all_facts batches ++ more)
+    → content_of (written generation batches ++ tail) ≡ Ok x → Reaches generation batches x
 unfolding content_of
 records_survive generation batches tail x legal small e =
     let file : List ℕ = written generation batches ++ tail in
@@ -171,4 +199,12 @@ records_survive generation batches tail x legal small e =
     let d = bind_ok (found_from left.most generation file (24 + length (batches_from generation 24 batches))) (λ y. Ok (all_facts batches ++ y.0, y.1)) b.0 (left.all ∙ found) in
     let made : Found = (all_facts batches ++ d.0.0, d.0.1) in
     let facts_are : x.facts ≡ b.0.0 = ap (λ (c : Content). c.facts) (sym (content_is _ x b.2)) in
-    (d.0.0, facts_are ∙ sym (ap (λ (y : Found). y.0) (ok_is made b.0 d.2)))
+    let place : ℕ = 24 + length (batches_from generation 24 batches) in
+    let behind : 24 + length (batches_from generation 24 batches) ≤ d.0.1 = stop_behind left.most generation file (24 + length (batches_from generation 24 batches)) d.0 d.1 in
+    let stop_is : d.0.1 ≡ x.stop = ap (λ (y : Found). y.1) (ok_is made b.0 d.2) ∙ ap (λ (c : Content). c.stop) (content_is _ x b.2) in
+    record {
+      more = d.0.0;
+      records = facts_are ∙ sym (ap (λ (y : Found). y.0) (ok_is made b.0 d.2));
+      generation_is = ap (λ (c : Content). c.generation) (sym (content_is _ x b.2)) ∙ same;
+      stop = omega (arith, behind, stop_is, length-append (header_of generation) (batches_from generation 24 batches), length-header generation);
+    }

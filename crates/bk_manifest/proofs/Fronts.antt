@@ -13,7 +13,7 @@ use Rattle.bk_manifest.specs.File.{magic, front_of, header_of, generation_of}
 use Rattle.bk_manifest.proofs.ReadFields.{wide32, wide64, IsBytes-take, IsBytes-drop}
 use Rattle.bk_manifest.proofs.Pieces.{BeginsWhole}
 
-from_take_4 : (bytes : List ℕ) → from_be_bytes w32 (take 4 bytes) ≡ from_be_bytes w32 bytes
+pub from_take_4 : (bytes : List ℕ) → from_be_bytes w32 (take 4 bytes) ≡ from_be_bytes w32 bytes
 from_take_4 bytes =
     rw (
       get_or-take 4 bytes 0 0 (omega arith),

@@ -1,6 +1,6 @@
 -- What a manifest keeps, over its calls.
-use Rattle.std.proofs.Common.{◌≡◌, ℕ, ◌+◌, ◌^◌, ◌<◌, ◌≤◌, Bool, List, [], ◌∷◌, ◌++◌, length, take, fold, refl, sym, ap, subst, ◌∙◌, arith, inl, inr}
-use Rattle.std.proofs.lemmas.List.{length-append, length-take}
+use Rattle.std.proofs.Common.{◌≡◌, ℕ, ◌+◌, ◌^◌, ◌<◌, ◌≤◌, Bool, true, false, List, [], ◌∷◌, ◌++◌, length, take, fold, refl, sym, ap, subst, ◌∙◌, arith, inl, inr}
+use Rattle.std.proofs.lemmas.List.{length-append, take_all}
 use Rattle.std.specs.Prelude.{Option, None, Result, Ok, Err, OnErr, IsTrue}
 use Rattle.bk_manifest.specs.declared.fault.Fault.{Fault}
 use Rattle.bk_manifest.specs.declared.state.State.{State}
@@ -9,8 +9,8 @@ use Rattle.bk_manifest.specs.Fact.{Fact, fact, facts, AreFacts, body_of}
 use Rattle.bk_manifest.specs.Batch.{batch_of}
 use Rattle.bk_manifest.specs.File.{written, Content, content_of}
 use Rattle.bk_manifest.specs.State.{last_after, last_about, IsStateOf, IsAfter, IsSameState, SameMeaning, HasMemory, HaveMemory, subject_of}
-use Rattle.bk_manifest.specs.Keeping.{IsOldOrNew, KeepsFront, facts_found, durable_up_to, IsBelieved, IsKept, HasBatchAt, MeansAt, StillMeans, IsOneOf}
-use Rattle.bk_manifest.proofs.Believing.{rewritten_believed, still_believed, same_front, committed}
+use Rattle.bk_manifest.specs.Keeping.{IsOldOrNew, KeepsFront, facts_found, durable_up_to, IsBelieved, HasFront, IsKept, MeansAt, StillMeans, IsOneOf}
+use Rattle.bk_manifest.proofs.Believing.{rewritten_believed, still_believed, same_front, front_stays, file_is_front, committed}
 
 -- ---- states
 
@@ -24,25 +24,56 @@ state_after xs ys old new is after =
 
 -- ---- what is kept
 
--- the front that is believed has not changed
-pub kept_front : (bytes bytes' : List ℕ) (synced synced' generation stop : ℕ) (honest honest' : Bool) (state : State) (noted : List Fact)
-    → IsKept bytes synced honest generation stop state noted → honest' ≡ honest → (IsTrue honest → KeepsFront stop bytes synced bytes' synced')
-    → IsKept bytes' synced' honest' generation stop state noted
-kept_front bytes bytes' synced synced' generation stop honest honest' state noted k same front = record {
+-- the front has not changed, and a call on the file failed
+pub kept_front : (bytes bytes' front : List ℕ) (synced synced' generation : ℕ) (honest honest' : Bool) (state : State) (noted : List Fact) (written exact exact' : Bool)
+    → IsKept bytes synced honest generation front state noted written exact → honest' ≡ honest
+    → (IsTrue honest → KeepsFront (length front) bytes synced bytes' synced') → exact' ≡ false
+    → IsKept bytes' synced' honest' generation front state noted written exact'
+kept_front bytes bytes' front synced synced' generation honest honest' state noted written exact exact' k same kept failed = record {
   room = k.room;
-  believed = λ now. still_believed bytes bytes' synced synced' generation stop (k.believed (sym same ∙ now)) (front (sym same ∙ now));
+  sure = λ is. absurd (cc (is, failed));
+  begins = λ now. front_stays bytes bytes' front generation (k.begins (sym same ∙ now)) (kept (sym same ∙ now)).front;
+  covered = λ now is. (kept (sym same ∙ now)).durable (length front) (omega arith) (k.covered (sym same ∙ now) is);
+  alone = λ now is. absurd (cc (is, failed));
   means = λ now.
-      subst (λ (t : List ℕ). IsStateOf (facts_found (content_of t)) state) (sym (front (sym same ∙ now)).front) (k.means (sym same ∙ now));
+      subst (λ (t : List ℕ). IsStateOf (facts_found (content_of t)) state) (sym (kept (sym same ∙ now)).front) (k.means (sym same ∙ now));
 }
 
+-- the file is the front, durable
+pub kept_renewed : (bytes bytes' front : List ℕ) (synced synced' generation : ℕ) (honest honest' : Bool) (state : State) (noted : List Fact) (written exact : Bool)
+    → IsKept bytes synced honest generation front state noted written exact → honest' ≡ honest
+    → (IsTrue honest → bytes' ≡ front) → (IsTrue honest → length bytes' ≤ synced')
+    → IsKept bytes' synced' honest' generation front state noted true true
+kept_renewed bytes bytes' front synced synced' generation honest honest' state noted written exact k same is all =
+    let there : IsTrue honest → take (length front) bytes' ≡ take (length front) bytes =
+    λ was. ap (take (length front)) (is was) ∙ take_all (length front) front (omega arith) ∙ sym (k.begins was).front_is in
+    record {
+      room = k.room;
+      sure = λ now. now;
+      begins = λ now. front_stays bytes bytes' front generation (k.begins (sym same ∙ now)) (there (sym same ∙ now));
+      covered = λ now _. omega (arith, all (sym same ∙ now), ap length (is (sym same ∙ now)));
+      alone = λ now _. ap length (is (sym same ∙ now));
+      means = λ now.
+          subst (λ (t : List ℕ). IsStateOf (facts_found (content_of t)) state) (sym (there (sym same ∙ now))) (k.means (sym same ∙ now));
+    }
+
 -- another state that says the same
-pub kept_state : (bytes : List ℕ) (synced generation stop : ℕ) (honest : Bool) (old new : State) (noted noted' : List Fact)
-    → IsKept bytes synced honest generation stop old noted → IsSameState old new → HaveMemory new noted' → IsKept bytes synced honest generation stop new noted'
-kept_state bytes synced generation stop honest old new noted noted' k same room = record {
+pub kept_state : (bytes front : List ℕ) (synced generation : ℕ) (honest : Bool) (old new : State) (noted noted' : List Fact) (written exact : Bool)
+    → IsKept bytes synced honest generation front old noted written exact → IsSameState old new → HaveMemory new noted'
+    → IsKept bytes synced honest generation front new noted' written exact
+kept_state bytes front synced generation honest old new noted noted' written exact k same room = record {
   room = room;
-  believed = k.believed;
+  sure = k.sure;
+  begins = k.begins;
+  covered = k.covered;
+  alone = k.alone;
   means = λ now. λ s. same s ∙ k.means now s;
 }
+
+-- an opening finds the records of a file that is the front
+pub finds_front : (bytes front : List ℕ) → take (length front) bytes ≡ front → length bytes ≡ length front
+    → facts_found (content_of bytes) ≡ facts_found (content_of (take (length front) bytes))
+finds_front bytes front begins alone = ap (λ (t : List ℕ). facts_found (content_of t)) (sym (take_all (length front) bytes (omega (arith, alone))))
 
 -- ---- a rewritten file
 
@@ -109,15 +140,35 @@ commit_kept bytes bytes' batch synced synced' generation stop stop' facts noted 
       records = records;
     }
 
--- one batch more, as the file has it
-pub batch_kept : (bytes bytes' : List ℕ) (synced synced' generation stop stop' : ℕ) (facts noted taken : List Fact) (old new : State)
-    → IsBelieved bytes synced generation stop → IsStateOf (durable_up_to stop bytes) old → HasBatchAt generation stop stop' facts bytes bytes' synced'
-    → facts ≡ noted → taken ≡ noted → IsAfter old taken new → IsCommittedTo bytes stop noted bytes' synced' generation stop' new
-batch_kept bytes bytes' synced synced' generation stop stop' facts noted taken old new b is h same took after =
-    let batch : List ℕ = batch_of generation stop (body_of facts) in
-    let ends : stop' ≡ stop + length (batch_of generation stop (body_of facts)) =
-    omega (arith, h.ends, ap length h.bytes_are, length-append (take stop bytes) (batch_of generation stop (body_of facts)), length-take stop bytes, b.inside) in
-    commit_kept bytes bytes' batch synced synced' generation stop stop' facts noted taken old new b is h.legal refl h.bytes_are h.covered ends same took after
+-- a manifest after one batch more at the end of its file
+pub record IsLonger (bytes bytes' front front' : List ℕ) (synced' generation : ℕ) (noted : List Fact) (state : State) : Type 0 where
+  pub begins : HasFront bytes' front' generation
+  pub covered : length front' ≤ synced'
+  pub alone : length bytes' ≡ length front'
+  pub means : IsStateOf (durable_up_to (length front') bytes') state
+  pub records : durable_up_to (length front') bytes' ≡ durable_up_to (length front) bytes ++ noted
+
+pub batch_kept : (bytes bytes' front front' : List ℕ) (synced' generation : ℕ) (facts noted taken : List Fact) (old new : State)
+    → HasFront bytes front generation → length bytes ≡ length front → IsStateOf (durable_up_to (length front) bytes) old → AreFacts facts
+    → bytes' ≡ bytes ++ batch_of generation (length front) (body_of facts) → front' ≡ front ++ batch_of generation (length front) (body_of facts)
+    → length bytes' ≤ synced' → facts ≡ noted → taken ≡ noted → IsAfter old taken new
+    → IsLonger bytes bytes' front front' synced' generation noted new
+batch_kept bytes bytes' front front' synced' generation facts noted taken old new b alone is legal bytes_is front_is all same took after =
+    let batch : List ℕ = batch_of generation (length front) (body_of facts) in
+    let file_is : bytes ≡ front = file_is_front bytes front b.front_is alone in
+    let both : bytes' ≡ front' = bytes_is ∙ ap (λ (t : List ℕ). t ++ batch) file_is ∙ sym front_is in
+    let here : bytes' ≡ take (length front) bytes ++ batch = bytes_is ∙ ap (λ (t : List ℕ). t ++ batch) (file_is ∙ sym b.front_is) in
+    let stop_is : length front' ≡ length front + length (batch_of generation (length front) (body_of facts)) =
+    ap length front_is ∙ length-append front (batch_of generation (length front) (body_of facts)) in
+    let c = commit_kept bytes bytes' batch (length front) (length front') generation (length front) (length front') facts noted taken old new b.whole is legal refl here
+    (omega (arith, ap length both)) stop_is same took after in
+    record {
+      begins = record { front_is = take_all (length front') bytes' (omega (arith, ap length both)) ∙ both; whole = c.believed };
+      covered = omega (arith, ap length both, all);
+      alone = ap length both;
+      means = c.means;
+      records = c.records;
+    }
 
 -- no record more
 pub none_after : (state : State) → IsAfter state [] state
@@ -134,8 +185,9 @@ one_noted state xs one none is more room =
 
 -- ---- a manifest that was read
 
-pub content_with : (read : Result Content Fault) (generation stop torn : ℕ) (facts others : List Fact)
-    → read ≡ Ok (record { generation = generation; facts = facts; stop = stop; torn = torn }) → others ≡ facts
-    → read ≡ Ok (record { generation = generation; facts = others; stop = stop; torn = torn })
-content_with read generation stop torn facts others is same =
+pub content_with : (read : Result Content Fault) (generation stop stop' torn : ℕ) (facts others : List Fact)
+    → read ≡ Ok (record { generation = generation; facts = facts; stop = stop; torn = torn }) → others ≡ facts → stop' ≡ stop
+    → read ≡ Ok (record { generation = generation; facts = others; stop = stop'; torn = torn })
+content_with read generation stop stop' torn facts others is same at =
     is ∙ ap (λ (fs : List Fact). Ok (record { generation = generation; facts = fs; stop = stop; torn = torn })) (sym same)
+    ∙ ap (λ (n : ℕ). Ok (record { generation = generation; facts = others; stop = n; torn = torn })) (sym at)

@@ -1,5 +1,7 @@
 pub mod Checksums
 pub mod Behind
+pub mod Sectors
+pub mod Torn
 pub mod Loops
 pub mod ReadFields
 pub mod Records

@@ -9,7 +9,7 @@ use Rattle.bk_manifest.specs.declared.piece.Piece.{Piece}
 use Rattle.bk_manifest.specs.declared.piece.Piece.TheVariants.{Whole, Cut, Misfit}
 use Rattle.bk_manifest.specs.Fact.{Fact}
 use Rattle.bk_manifest.specs.Reading.{◌>>=◌, Fails, fact_at, facts_at, facts_of}
-use Rattle.bk_manifest.specs.Batch.{Found, piece_at, any_behind, after_piece, found_from}
+use Rattle.bk_manifest.specs.Batch.{Found, piece_at, is_torn, after_piece, found_from}
 
 -- ---- records
 
@@ -141,7 +141,7 @@ batches_fail e generation file front place size total inside is read left =
 last_piece : (generation most : ℕ) (file : List ℕ) (front : List Fact) (place : ℕ) (piece : Piece) (total last : Result Found Fault)
     → place ≤ length file → length file < place + most
     → piece_at generation place (drop place file) ≡ piece
-    → ((next : ℕ → Result Found Fault) → then_found front (after_piece piece (any_behind generation file place) place next) ≡ last)
+    → ((next : ℕ → Result Found Fault) → then_found front (after_piece piece (is_torn generation file place) place next) ≡ last)
     → then_found front (found_from most generation file place) ≡ total → total ≡ last
 unfolding found_from
 last_piece generation zero file front place piece total last inside enough is ends all = absurd (omega arith)
@@ -156,19 +156,19 @@ batches_cut generation file front place total inside is left =
     last_piece generation left.most file front place Cut total (Ok (front, place)) inside left.enough is
     (λ next. ap (λ (fs : List Fact). Ok (fs, place)) (append-nil front)) left.all
 
-pub batches_torn : (generation : ℕ) (file : List ℕ) (front : List Fact) (place : ℕ) (total : Result Found Fault)
-    → place ≤ length file → piece_at generation place (drop place file) ≡ Misfit → any_behind generation file place ≡ false
+pub batches_torn : (generation : ℕ) (file : List ℕ) (front : List Fact) (place size : ℕ) (total : Result Found Fault)
+    → place ≤ length file → piece_at generation place (drop place file) ≡ Misfit size → is_torn generation file place size ≡ true
     → BatchesLeft generation file front place total → total ≡ Ok (front, place)
-batches_torn generation file front place total inside is none left =
-    last_piece generation left.most file front place Misfit total (Ok (front, place)) inside left.enough is
-    (λ next. rw none (ap (λ (fs : List Fact). Ok (fs, place)) (append-nil front))) left.all
+batches_torn generation file front place size total inside is torn left =
+    last_piece generation left.most file front place (Misfit size) total (Ok (front, place)) inside left.enough is
+    (λ next. rw torn (ap (λ (fs : List Fact). Ok (fs, place)) (append-nil front))) left.all
 
-pub batches_damaged : (generation : ℕ) (file : List ℕ) (front : List Fact) (place : ℕ) (total : Result Found Fault)
-    → place ≤ length file → piece_at generation place (drop place file) ≡ Misfit → any_behind generation file place ≡ true
+pub batches_damaged : (generation : ℕ) (file : List ℕ) (front : List Fact) (place size : ℕ) (total : Result Found Fault)
+    → place ≤ length file → piece_at generation place (drop place file) ≡ Misfit size → is_torn generation file place size ≡ false
     → BatchesLeft generation file front place total → total ≡ Err (Damaged place)
-batches_damaged generation file front place total inside is some left =
-    last_piece generation left.most file front place Misfit total (Err (Damaged place)) inside left.enough is
-    (λ next. rw some refl) left.all
+batches_damaged generation file front place size total inside is whole left =
+    last_piece generation left.most file front place (Misfit size) total (Err (Damaged place)) inside left.enough is
+    (λ next. rw whole refl) left.all
 
 -- body of a batch, as a slice of the file from its place on
 pub body_there : (place size : ℕ) (file : List ℕ) → take size (drop (place + 8) file) ≡ take (place + 8 + size - (place + 8)) (drop (place + 8) file)

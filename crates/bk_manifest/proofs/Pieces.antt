@@ -1,6 +1,6 @@
 -- A batch that was written is whole where it stands, and cut where the file ends in it; and a whole
 -- batch is one that was written.
-use Rattle.std.proofs.Common.{◌≡◌, ℕ, ◌+◌, ◌-◌, ◌^◌, ◌<◌, ◌≤◌, Bool, true, false, cond, eqb, ltb, List, [], ◌++◌, length, take, drop, refl, sym, ap, subst, ◌∙◌, append_assoc, arith, inl, inr}
+use Rattle.std.proofs.Common.{◌≡◌, ℕ, ◌+◌, ◌-◌, ◌^◌, ◌<◌, ◌≤◌, Bool, true, false, cond, eqb, ltb, List, [], ◌++◌, length, take, drop, refl, sym, ap, subst, ◌∙◌, append_assoc, arith, inl, inr, ◌⊎◌}
 use Rattle.std.specs.Int.{w32, from_be_bytes, to_be_bytes}
 use Rattle.std.proofs.Math.Seq.{take-append-add}
 use Rattle.std.proofs.lemmas.Bool.{cases_lt, ltb-false, le-ltb, lt-ltb, eq-eqb, eqb-true}
@@ -8,23 +8,24 @@ use Rattle.std.proofs.lemmas.List.{take_at, drop_at, length-append, length-take,
 use Rattle.bk_manifest.specs.declared.piece.Piece.{Piece}
 use Rattle.bk_manifest.specs.declared.piece.Piece.TheVariants.{Whole, Cut, Misfit}
 use Rattle.bk_manifest.specs.Checksum.{checksum_of_batch}
+use Rattle.bk_manifest.specs.Holes.{count_in_head}
 use Rattle.bk_manifest.specs.Batch.{head_of, batch_of, size_field, body_at, piece_at}
 use Rattle.bk_manifest.proofs.Checksums.{crc32c_low}
 use Rattle.bk_manifest.proofs.ReadFields.{wide32}
 
 -- ---- the four tests
 
-abbrev tested : Bool → Bool → Bool → Bool → ℕ → Piece
-tested short head cut whole size = cond short Cut (cond head (cond cut Cut (cond whole (Whole size) Misfit)) Misfit)
+abbrev tested : Bool → Bool → Bool → Bool → ℕ → ℕ → Piece
+tested short head cut whole size reach = cond short Cut (cond head (cond cut Cut (cond whole (Whole size) (Misfit (size + 12)))) (Misfit reach))
 
-is_whole_by : (short head cut whole : Bool) (size : ℕ) → short ≡ false → head ≡ true → cut ≡ false → whole ≡ true → tested short head cut whole size ≡ Whole size
-is_whole_by short head cut whole size p q r s = rw (p, q, r, s) refl
+is_whole_by : (short head cut whole : Bool) (size reach : ℕ) → short ≡ false → head ≡ true → cut ≡ false → whole ≡ true → tested short head cut whole size reach ≡ Whole size
+is_whole_by short head cut whole size reach p q r s = rw (p, q, r, s) refl
 
-is_short_by : (short head cut whole : Bool) (size : ℕ) → short ≡ true → tested short head cut whole size ≡ Cut
-is_short_by short head cut whole size p = rw p refl
+is_short_by : (short head cut whole : Bool) (size reach : ℕ) → short ≡ true → tested short head cut whole size reach ≡ Cut
+is_short_by short head cut whole size reach p = rw p refl
 
-is_cut_by : (short head cut whole : Bool) (size : ℕ) → short ≡ false → head ≡ true → cut ≡ true → tested short head cut whole size ≡ Cut
-is_cut_by short head cut whole size p q r = rw (p, q, r) refl
+is_cut_by : (short head cut whole : Bool) (size reach : ℕ) → short ≡ false → head ≡ true → cut ≡ true → tested short head cut whole size reach ≡ Cut
+is_cut_by short head cut whole size reach p q r = rw (p, q, r) refl
 
 record IsWholeBy (short head cut whole : Bool) (size n : ℕ) : Type 0 where
   long : short ≡ false
@@ -33,12 +34,21 @@ record IsWholeBy (short head cut whole : Bool) (size n : ℕ) : Type 0 where
   fits : whole ≡ true
   size_is : size ≡ n
 
-whole_by : (short head cut whole : Bool) (size n : ℕ) → tested short head cut whole size ≡ Whole n → IsWholeBy short head cut whole size n
-whole_by true head cut whole size n e = absurd cc
-whole_by false false cut whole size n e = absurd cc
-whole_by false true true whole size n e = absurd cc
-whole_by false true false false size n e = absurd cc
-whole_by false true false true size n e = record { long = refl; head_fits = refl; inside = refl; fits = refl; size_is = cc }
+whole_by : (short head cut whole : Bool) (size reach n : ℕ) → tested short head cut whole size reach ≡ Whole n → IsWholeBy short head cut whole size n
+whole_by true head cut whole size reach n e = absurd cc
+whole_by false false cut whole size reach n e = absurd cc
+whole_by false true true whole size reach n e = absurd cc
+whole_by false true false false size reach n e = absurd cc
+whole_by false true false true size reach n e = record { long = refl; head_fits = refl; inside = refl; fits = refl; size_is = cc }
+
+-- what a misfit fails, and of how many bytes it is
+misfit_by : (short head cut whole : Bool) (size reach n : ℕ) → tested short head cut whole size reach ≡ Misfit n
+    → (short ≡ false) × (((head ≡ false) × (n ≡ reach)) ⊎ ((cut ≡ false) × (n ≡ size + 12)))
+misfit_by true head cut whole size reach n e = absurd cc
+misfit_by false false cut whole size reach n e = (refl, inl (refl, cc))
+misfit_by false true true whole size reach n e = absurd cc
+misfit_by false true false true size reach n e = absurd cc
+misfit_by false true false false size reach n e = (refl, inr (refl, cc))
 
 -- ---- what they say
 
@@ -65,7 +75,7 @@ whole_when generation place bytes size b =
     is_whole_by (ltb (length bytes) 8) (eqb (checksum_of_batch generation place (size_field bytes) []) (from_be_bytes w32 (drop 4 bytes)))
     (ltb (length bytes) (size_field bytes + 12))
     (eqb (checksum_of_batch generation place (size_field bytes) (take (size_field bytes) (drop 8 bytes))) (from_be_bytes w32 (drop (8 + size_field bytes) bytes)))
-    (size_field bytes) (le-ltb _ _ b.long) (eq-eqb _ _ head_fits) (le-ltb _ _ inside) (eq-eqb _ _ fits)
+    (size_field bytes) (count_in_head place bytes) (le-ltb _ _ b.long) (eq-eqb _ _ head_fits) (le-ltb _ _ inside) (eq-eqb _ _ fits)
     ∙ ap (λ (n : ℕ). Whole n) b.size_is
 
 pub whole_only : (generation place : ℕ) (bytes : List ℕ) (size : ℕ) → piece_at generation place bytes ≡ Whole size → BeginsWhole generation place bytes size
@@ -74,13 +84,34 @@ whole_only generation place bytes size is =
     let w = whole_by (ltb (length bytes) 8) (eqb (checksum_of_batch generation place (size_field bytes) []) (from_be_bytes w32 (drop 4 bytes)))
     (ltb (length bytes) (size_field bytes + 12))
     (eqb (checksum_of_batch generation place (size_field bytes) (take (size_field bytes) (drop 8 bytes))) (from_be_bytes w32 (drop (8 + size_field bytes) bytes)))
-    (size_field bytes) size is in
+    (size_field bytes) (count_in_head place bytes) size is in
     record {
       long = ltb-false _ _ w.long;
       size_is = w.size_is;
       head_fits = subst (λ (n : ℕ). checksum_of_batch generation place n [] ≡ from_be_bytes w32 (drop 4 bytes)) w.size_is (eqb-true _ _ w.head_fits);
       inside = subst (λ (n : ℕ). n + 12 ≤ length bytes) w.size_is (ltb-false _ _ w.inside);
       fits = subst (λ (n : ℕ). checksum_of_batch generation place n (take n (drop 8 bytes)) ≡ from_be_bytes w32 (drop (8 + n) bytes)) w.size_is (eqb-true _ _ w.fits);
+    }
+
+-- the bytes begin with a misfit of so many bytes: a head that does not fit, or a batch
+pub record BeginsMisfit (generation place : ℕ) (bytes : List ℕ) (size : ℕ) : Type 0 where
+  pub long : 8 ≤ length bytes
+  pub which : ((checksum_of_batch generation place (size_field bytes) [] ≡ from_be_bytes w32 (drop 4 bytes) → ⊥) × (size ≡ count_in_head place bytes))
+      ⊎ ((size_field bytes + 12 ≤ length bytes) × (size ≡ size_field bytes + 12))
+
+pub misfit_only : (generation place : ℕ) (bytes : List ℕ) (size : ℕ) → piece_at generation place bytes ≡ Misfit size → BeginsMisfit generation place bytes size
+unfolding piece_at body_at
+misfit_only generation place bytes size is =
+    let m = misfit_by (ltb (length bytes) 8) (eqb (checksum_of_batch generation place (size_field bytes) []) (from_be_bytes w32 (drop 4 bytes)))
+    (ltb (length bytes) (size_field bytes + 12))
+    (eqb (checksum_of_batch generation place (size_field bytes) (take (size_field bytes) (drop 8 bytes))) (from_be_bytes w32 (drop (8 + size_field bytes) bytes)))
+    (size_field bytes) (count_in_head place bytes) size is in
+    record {
+      long = ltb-false _ _ m.0;
+      which = elim m.1 [
+        | inl head ↦ inl (λ same. let fits = eq-eqb _ _ same in absurd (cc (fits, head.0)), head.1)
+        | inr body ↦ inr (ltb-false _ _ body.0, body.1)
+      ];
     }
 
 -- ---- what was written
@@ -98,11 +129,11 @@ pub length-batch : (generation place : ℕ) (body : List ℕ) → length (batch_
 unfolding batch_of tail_of
 length-batch generation place body = omega (arith, length-append body (tail_of generation place body))
 
-batch_size : (generation place : ℕ) (body rest : List ℕ) → length body < 2 ^ 32 → size_field (batch_of generation place body ++ rest) ≡ length body
+pub batch_size : (generation place : ℕ) (body rest : List ℕ) → length body < 2 ^ 32 → size_field (batch_of generation place body ++ rest) ≡ length body
 unfolding batch_of
 batch_size generation place body rest small = wide32.again (length body) small
 
-batch_head : (generation place : ℕ) (body rest : List ℕ)
+pub batch_head : (generation place : ℕ) (body rest : List ℕ)
     → checksum_of_batch generation place (length body) [] ≡ from_be_bytes w32 (drop 4 (batch_of generation place body ++ rest))
 unfolding batch_of
 batch_head generation place body rest = sym (wide32.again (checksum_of_batch generation place (length body) []) (low generation place (length body) []))
@@ -144,7 +175,7 @@ head_cut generation place size some small few =
     is_cut_by (ltb (length bytes) 8) (eqb (checksum_of_batch generation place (size_field bytes) []) (from_be_bytes w32 (drop 4 bytes)))
     (ltb (length bytes) (size_field bytes + 12))
     (eqb (checksum_of_batch generation place (size_field bytes) (take (size_field bytes) (drop 8 bytes))) (from_be_bytes w32 (drop (8 + size_field bytes) bytes)))
-    (size_field bytes) (le-ltb _ _ (omega (arith, long))) (eq-eqb _ _ head_fits) (lt-ltb _ _ cut)
+    (size_field bytes) (count_in_head place bytes) (le-ltb _ _ (omega (arith, long))) (eq-eqb _ _ head_fits) (lt-ltb _ _ cut)
 
 pub short_cut : (generation place : ℕ) (bytes : List ℕ) → length bytes < 8 → piece_at generation place bytes ≡ Cut
 unfolding piece_at

@@ -6,7 +6,7 @@ use Rattle.std.proofs.lemmas.Bool.{eqb-true}
 use Rattle.std.proofs.lemmas.List.{length-append}
 use Rattle.std.proofs.lemmas.List.Concat.{flat_map-cons}
 use Rattle.bk_manifest.specs.declared.fault.Fault.TheVariants.{UnknownKind}
-use Rattle.bk_manifest.specs.Fact.{Fact, made_log, durable_log, removed_log, deleted_ledger, fenced_ledger, attribute, fact_bytes, Fits, body_of}
+use Rattle.bk_manifest.specs.Fact.{Fact, made_log, durable_log, removed_log, deleted_ledger, fenced_ledger, attribute, marked_ledgers, fact_bytes, Fits, body_of}
 use Rattle.bk_manifest.specs.Reading.{IsBytes, ◌>>=◌, number_at, string_at, numbered_at, measured_at, attribute_at, fact_of_kind, fact_at, facts_at}
 use Rattle.bk_manifest.proofs.ReadFields.{bind_ok, ok_is, Takes, Takes-then, wide32, wide64, IsWide, number_takes, number_again, string, string_takes, string_again}
 use Rattle.bk_manifest.proofs.Loops.{nothing_left}
@@ -34,6 +34,9 @@ fact_again at (attribute ledger kind bytes) rest fits =
       number_again w32 (2 ^ 32) wide32 at kind (string bytes ++ rest) fits.1,
       string_again at bytes rest fits.2,
     ) refl
+fact_again at (marked_ledgers generation size) rest fits =
+    ap (λ (b : List ℕ). fact_at at (7 ∷ b)) (append_assoc (to_be_bytes w64 generation) (to_be_bytes w64 size) rest)
+    ∙ rw (number_again w64 (2 ^ 64) wide64 at generation (to_be_bytes w64 size ++ rest) fits.0, number_again w64 (2 ^ 64) wide64 at size rest fits.1) refl
 
 -- a record has at least one byte
 pub fact_some : (f : Fact) → 1 ≤ length (fact_bytes f)
@@ -44,6 +47,7 @@ fact_some (removed_log log size) = omega arith
 fact_some (deleted_ledger ledger) = omega arith
 fact_some (fenced_ledger ledger) = omega arith
 fact_some (attribute ledger kind bytes) = omega arith
+fact_some (marked_ledgers generation size) = omega arith
 
 -- one record more
 pub facts_step : (most at : ℕ) (bytes : List ℕ) (f : Fact) (rest : List ℕ) → 0 < length bytes → fact_at at bytes ≡ Ok (f, rest)
@@ -96,19 +100,20 @@ numbered_takes w limit wide of code text legal at kind bytes x fits is e =
     subst (λ (y : Fact × List ℕ). Takes (kind ∷ bytes) (fact_bytes y.0) y.1 × Fits y.0) (ok_is made x a.2)
     (spelled kind code bytes (to_be_bytes w a.0.0) a.0.1 (of a.0.0) is (text a.0.0) t.0 (legal a.0.0 t.1))
 
-measured_takes : (of : ℕ → ℕ → Fact) (code : ℕ) → ((log size : ℕ) → fact_bytes (of log size) ≡ code ∷ (to_be_bytes w32 log ++ to_be_bytes w64 size))
-    → ((log size : ℕ) → log < 2 ^ 32 → size < 2 ^ 64 → Fits (of log size))
-    → (at kind : ℕ) (bytes : List ℕ) (x : Fact × List ℕ) → IsBytes bytes → kind ≡ code → measured_at of at bytes ≡ Ok x → Spelled kind bytes x
+measured_takes : (w : Width) (limit : ℕ) (wide : IsWide w limit) (of : ℕ → ℕ → Fact) (code : ℕ)
+    → ((log size : ℕ) → fact_bytes (of log size) ≡ code ∷ (to_be_bytes w log ++ to_be_bytes w64 size))
+    → ((log size : ℕ) → log < limit → size < 2 ^ 64 → Fits (of log size))
+    → (at kind : ℕ) (bytes : List ℕ) (x : Fact × List ℕ) → IsBytes bytes → kind ≡ code → measured_at w of at bytes ≡ Ok x → Spelled kind bytes x
 unfolding measured_at
-measured_takes of code text legal at kind bytes x fits is e =
-    let a = bind_ok (number_at w32 at bytes) (λ log. number_at w64 at log.1 >>= λ size. Ok (of log.0 size.0, size.1)) x e in
+measured_takes w limit wide of code text legal at kind bytes x fits is e =
+    let a = bind_ok (number_at w at bytes) (λ log. number_at w64 at log.1 >>= λ size. Ok (of log.0 size.0, size.1)) x e in
     let b = bind_ok (number_at w64 at a.0.1) (λ size. Ok (of a.0.0 size.0, size.1)) x a.2 in
-    let s = number_takes w32 (2 ^ 32) wide32 at bytes a.0.0 a.0.1 fits a.1 in
+    let s = number_takes w limit wide at bytes a.0.0 a.0.1 fits a.1 in
     let t = number_takes w64 (2 ^ 64) wide64 at a.0.1 b.0.0 b.0.1 s.0.rest_fits b.1 in
-    let both = Takes-then bytes (to_be_bytes w32 a.0.0) a.0.1 (to_be_bytes w64 b.0.0) b.0.1 s.0 t.0 in
+    let both = Takes-then bytes (to_be_bytes w a.0.0) a.0.1 (to_be_bytes w64 b.0.0) b.0.1 s.0 t.0 in
     let made : Fact × List ℕ = (of a.0.0 b.0.0, b.0.1) in
     subst (λ (y : Fact × List ℕ). Takes (kind ∷ bytes) (fact_bytes y.0) y.1 × Fits y.0) (ok_is made x b.2)
-    (spelled kind code bytes (to_be_bytes w32 a.0.0 ++ to_be_bytes w64 b.0.0) b.0.1 (of a.0.0 b.0.0) is (text a.0.0 b.0.0) both (legal a.0.0 b.0.0 s.1 t.1))
+    (spelled kind code bytes (to_be_bytes w a.0.0 ++ to_be_bytes w64 b.0.0) b.0.1 (of a.0.0 b.0.0) is (text a.0.0 b.0.0) both (legal a.0.0 b.0.0 s.1 t.1))
 
 attribute_takes : (at kind : ℕ) (bytes : List ℕ) (x : Fact × List ℕ) → IsBytes bytes → kind ≡ 6 → attribute_at at bytes ≡ Ok x → Spelled kind bytes x
 unfolding attribute_at fact_bytes
@@ -131,17 +136,20 @@ unfolding fact_of_kind fact_bytes
 kind_takes at kind bytes x fits e =
     elim (chosen (eqb kind 1) (numbered_at w32 made_log at bytes) _ (Ok x) e) [
       | inl h ↦ numbered_takes w32 (2 ^ 32) wide32 made_log 1 (λ n. refl) (λ n low. low) at kind bytes x fits (eqb-true _ _ h.0) h.1
-      | inr n1 ↦ elim (chosen (eqb kind 2) (measured_at durable_log at bytes) _ (Ok x) n1.1) [
-        | inl h ↦ measured_takes durable_log 2 (λ log size. refl) (λ log size low short. (low, short)) at kind bytes x fits (eqb-true _ _ h.0) h.1
-        | inr n2 ↦ elim (chosen (eqb kind 3) (measured_at removed_log at bytes) _ (Ok x) n2.1) [
-          | inl h ↦ measured_takes removed_log 3 (λ log size. refl) (λ log size low short. (low, short)) at kind bytes x fits (eqb-true _ _ h.0) h.1
+      | inr n1 ↦ elim (chosen (eqb kind 2) (measured_at w32 durable_log at bytes) _ (Ok x) n1.1) [
+        | inl h ↦ measured_takes w32 (2 ^ 32) wide32 durable_log 2 (λ log size. refl) (λ log size low short. (low, short)) at kind bytes x fits (eqb-true _ _ h.0) h.1
+        | inr n2 ↦ elim (chosen (eqb kind 3) (measured_at w32 removed_log at bytes) _ (Ok x) n2.1) [
+          | inl h ↦ measured_takes w32 (2 ^ 32) wide32 removed_log 3 (λ log size. refl) (λ log size low short. (low, short)) at kind bytes x fits (eqb-true _ _ h.0) h.1
           | inr n3 ↦ elim (chosen (eqb kind 4) (numbered_at w64 deleted_ledger at bytes) _ (Ok x) n3.1) [
             | inl h ↦ numbered_takes w64 (2 ^ 64) wide64 deleted_ledger 4 (λ n. refl) (λ n low. low) at kind bytes x fits (eqb-true _ _ h.0) h.1
             | inr n4 ↦ elim (chosen (eqb kind 5) (numbered_at w64 fenced_ledger at bytes) _ (Ok x) n4.1) [
               | inl h ↦ numbered_takes w64 (2 ^ 64) wide64 fenced_ledger 5 (λ n. refl) (λ n low. low) at kind bytes x fits (eqb-true _ _ h.0) h.1
-              | inr n5 ↦ elim (chosen (eqb kind 6) (attribute_at at bytes) (Err (UnknownKind at kind)) (Ok x) n5.1) [
+              | inr n5 ↦ elim (chosen (eqb kind 6) (attribute_at at bytes) _ (Ok x) n5.1) [
                 | inl h ↦ attribute_takes at kind bytes x fits (eqb-true _ _ h.0) h.1
-                | inr n6 ↦ let no = n6.1 in absurd cc
+                | inr n6 ↦ elim (chosen (eqb kind 7) (measured_at w64 marked_ledgers at bytes) (Err (UnknownKind at kind)) (Ok x) n6.1) [
+                  | inl h ↦ measured_takes w64 (2 ^ 64) wide64 marked_ledgers 7 (λ log size. refl) (λ log size low short. (low, short)) at kind bytes x fits (eqb-true _ _ h.0) h.1
+                  | inr n7 ↦ let no = n7.1 in absurd cc
+                ]
               ]
             ]
           ]

@@ -1,5 +1,5 @@
 -- A whole manifest: its header, its batches, and what reading gives of any bytes.
-use Rattle.std.specs.Prelude.{◌≡◌, ◌⊎◌, ℕ, ◌-◌, ◌<◌, ◌^◌, ◌==◌, not, List, [], ◌∷◌, ◌++◌, length, take, drop, false, Result, Ok, Err, nat_lt, if◌then◌else◌}
+use Rattle.std.specs.Prelude.{◌≡◌, ◌⊎◌, ℕ, ◌-◌, ◌<◌, ◌^◌, ◌==◌, not, List, [], ◌∷◌, ◌++◌, length, take, drop, true, Result, Ok, Err, nat_lt, if◌then◌else◌}
 use Rattle.std.specs.List.{AllByRecursion}
 use Rattle.std.specs.Int.{w32, w64, to_be_bytes, from_be_bytes}
 use Rattle.bk_manifest.specs.declared.fault.Fault.{Fault}
@@ -9,7 +9,7 @@ use Rattle.bk_manifest.specs.declared.reading.Contents.{Contents}
 use Rattle.bk_manifest.specs.Checksum.{crc32c}
 use Rattle.bk_manifest.specs.Fact.{Fact, facts, AreFacts}
 use Rattle.bk_manifest.specs.Reading.{◌>>=◌}
-use Rattle.bk_manifest.specs.Batch.{batches_from, piece_at, any_behind, found_from}
+use Rattle.bk_manifest.specs.Batch.{batches_from, piece_at, is_torn, found_from}
 
 -- the eight bytes `MANIFEST` as a number
 abbrev pub magic : ℕ
@@ -58,12 +58,12 @@ abbrev pub all_facts : List (List Fact) → List Fact
 all_facts [] = []
 all_facts (batch ∷ batches) = batch ++ all_facts batches
 
--- The file ends at this place, or is torn there: a batch is cut by the end of the file, or none fits
--- there and none behind it.
+-- The file ends at this place, or is torn there, as a crash leaves it: a batch is cut by the end of the
+-- file, or a sector of it was never written and no whole batch stands behind it.
 abbrev pub IsEnd : ℕ → List ℕ → ℕ → Type 0
 IsEnd generation file place =
     (piece_at generation place (drop place file) ≡ Cut)
-    ⊎ ((piece_at generation place (drop place file) ≡ Misfit) × (any_behind generation file place ≡ false))
+    ⊎ ((size : ℕ) × (piece_at generation place (drop place file) ≡ Misfit size) × (is_torn generation file place size ≡ true))
 
 -- the file is a header, whole batches of these records, and an end that may be torn
 pub record IsManifest (file : List ℕ) (batches : List (List Fact)) (found : Content) : Type 0 where

@@ -39,8 +39,8 @@ pub record FailsExactlyIf (before now : ℕ) (Told : Type 0) : Type 0 where
   pub failed : Told → before < now
   pub told : before < now → Told
 
--- what there is to say of a manifest: of its file, its generation, where its whole batches end, and
--- the records that are noted for the next one
+-- what there is to say of a manifest: of its file, its generation, where its whole batches end, the
+-- records that are noted for the next one, and whether it was written so that its batches are durable
 pub record Kept : Type 0 where
   pub bytes : List ℕ
   pub synced : ℕ
@@ -49,12 +49,13 @@ pub record Kept : Type 0 where
   pub generation : ℕ
   pub stop : ℕ
   pub pending : List Fact
+  pub written : Bool
 
 abbrev pub kept_code : Coded Kept
 kept_code =
-    code_by (List ℕ × (ℕ × (Bool × (ℕ × (ℕ × (ℕ × List Fact))))))
-    (coded× (coded_list coded_ℕ) (coded× coded_ℕ (coded× coded_bool (coded× coded_ℕ (coded× coded_ℕ (coded× coded_ℕ (coded_list fact_code)))))))
-    (λ m. (m.bytes, (m.synced, (m.honest, (m.failures, (m.generation, (m.stop, m.pending)))))))
+    code_by (List ℕ × (ℕ × (Bool × (ℕ × (ℕ × (ℕ × (List Fact × Bool)))))))
+    (coded× (coded_list coded_ℕ) (coded× coded_ℕ (coded× coded_bool (coded× coded_ℕ (coded× coded_ℕ (coded× coded_ℕ (coded× (coded_list fact_code) coded_bool)))))))
+    (λ m. (m.bytes, (m.synced, (m.honest, (m.failures, (m.generation, (m.stop, (m.pending, m.written))))))))
     (λ p. record {
       bytes = p.0;
       synced = p.1.0;
@@ -62,16 +63,9 @@ kept_code =
       failures = p.1.1.1.0;
       generation = p.1.1.1.1.0;
       stop = p.1.1.1.1.1.0;
-      pending = p.1.1.1.1.1.1;
+      pending = p.1.1.1.1.1.1.0;
+      written = p.1.1.1.1.1.1.1;
     }) (λ _. refl)
-
--- The file is its front up to a place, and a batch of these records up to its end. All of it is
--- durable.
-pub record HasBatchAt (generation place stop : ℕ) (records : List Fact) (bytes bytes' : List ℕ) (synced' : ℕ) : Type 0 where
-  pub legal : AreFacts records
-  pub bytes_are : bytes' ≡ take place bytes ++ batch_of generation place (body_of records)
-  pub covered : length bytes' ≤ synced'
-  pub ends : stop ≡ length bytes'
 
 -- what a manifest reports where its file does
 abbrev pub of_file : FileFault → ManifestError
@@ -108,12 +102,21 @@ pub record IsBelieved (bytes : List ℕ) (synced generation stop : ℕ) : Type 0
   pub batches : List (List Fact)
   pub whole : IsManifest (take stop bytes) batches (record { generation = generation; facts = all_facts batches; stop = stop; torn = 0 })
 
--- What a manifest keeps: room for each noted record; and on an honest file what it believes is durable,
--- and its state is that of the durable records.
-pub record IsKept (bytes : List ℕ) (synced : ℕ) (honest : Bool) (generation stop : ℕ) (state : State) (noted : List Fact) : Type 0 where
+-- The file begins with this front, a manifest of this generation, whole.
+pub record HasFront (bytes front : List ℕ) (generation : ℕ) : Type 0 where
+  pub front_is : take (length front) bytes ≡ front
+  pub whole : IsBelieved bytes (length front) generation (length front)
+
+-- What a manifest keeps: room for each noted record. On an honest file that begins with its front,
+-- whose records its state means; the front is durable once it was written, and the file is the front,
+-- unless a call on it failed.
+pub record IsKept (bytes : List ℕ) (synced : ℕ) (honest : Bool) (generation : ℕ) (front : List ℕ) (state : State) (noted : List Fact) (written exact : Bool) : Type 0 where
   pub room : HaveMemory state noted
-  pub believed : IsTrue honest → IsBelieved bytes synced generation stop
-  pub means : IsTrue honest → IsStateOf (facts_found (content_of (take stop bytes))) state
+  pub sure : IsTrue exact → IsTrue written
+  pub begins : IsTrue honest → HasFront bytes front generation
+  pub covered : IsTrue honest → IsTrue written → length front ≤ synced
+  pub alone : IsTrue honest → IsTrue exact → length bytes ≡ length front
+  pub means : IsTrue honest → IsStateOf (facts_found (content_of (take (length front) bytes))) state
 
 -- two manifests differ in the noted records only
 pub record OnlyNoted (old new : Kept) : Type 0 where
@@ -123,6 +126,7 @@ pub record OnlyNoted (old new : Kept) : Type 0 where
   pub failures : new.failures ≡ old.failures
   pub generation : new.generation ≡ old.generation
   pub stop : new.stop ≡ old.stop
+  pub written : new.written ≡ old.written
 
 -- the manifest has what the bytes of its file gave: so many records, and so many torn bytes behind them
 pub record HasOpened (bytes : List ℕ) (m : Kept) (records torn : ℕ) : Type 0 where

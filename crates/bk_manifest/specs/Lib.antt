@@ -2,9 +2,11 @@ pub mod Checksum
 pub mod Fact
 pub mod FactCode
 pub mod Reading
+pub mod Holes
 pub mod Batch
 pub mod File
 pub mod Subject
 pub mod State
+pub mod Marking
 pub mod Plan
 pub mod Keeping

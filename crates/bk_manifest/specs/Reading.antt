@@ -6,7 +6,7 @@ use Rattle.bk_manifest.specs.declared.fault.Fault.{Fault}
 use Rattle.bk_manifest.specs.declared.fault.Fault.TheVariants.{UnknownKind, CutRecord}
 use Rattle.bk_manifest.specs.declared.fault.ReadError.{ReadError}
 use Rattle.bk_manifest.specs.declared.fault.ReadError.TheVariants as errors
-use Rattle.bk_manifest.specs.Fact.{Fact, made_log, durable_log, removed_log, deleted_ledger, fenced_ledger, attribute}
+use Rattle.bk_manifest.specs.Fact.{Fact, made_log, durable_log, removed_log, deleted_ledger, fenced_ledger, attribute, marked_ledgers}
 
 -- every number is a byte
 abbrev pub IsBytes : List ℕ → Type 0
@@ -44,12 +44,12 @@ numbered_at w of at bytes = do
   n ← number_at w at bytes
   Ok (of n.0, n.1)
 
--- a record of a log and a length
-unfoldable pub measured_at : (ℕ → ℕ → Fact) → ℕ → List ℕ → Result (Fact × List ℕ) Fault
-measured_at of at bytes = do
-  log ← number_at w32 at bytes
-  length ← number_at w64 at log.1
-  Ok (of log.0 length.0, length.1)
+-- a record of a number, as a log, and a length
+unfoldable pub measured_at : Width → (ℕ → ℕ → Fact) → ℕ → List ℕ → Result (Fact × List ℕ) Fault
+measured_at w of at bytes = do
+  n ← number_at w at bytes
+  length ← number_at w64 at n.1
+  Ok (of n.0 length.0, length.1)
 
 unfoldable pub attribute_at : ℕ → List ℕ → Result (Fact × List ℕ) Fault
 attribute_at at bytes = do
@@ -61,11 +61,12 @@ attribute_at at bytes = do
 unfoldable pub fact_of_kind : ℕ → ℕ → List ℕ → Result (Fact × List ℕ) Fault
 fact_of_kind at kind bytes =
     if kind == 1 then numbered_at w32 made_log at bytes
-    else if kind == 2 then measured_at durable_log at bytes
-    else if kind == 3 then measured_at removed_log at bytes
+    else if kind == 2 then measured_at w32 durable_log at bytes
+    else if kind == 3 then measured_at w32 removed_log at bytes
     else if kind == 4 then numbered_at w64 deleted_ledger at bytes
     else if kind == 5 then numbered_at w64 fenced_ledger at bytes
     else if kind == 6 then attribute_at at bytes
+    else if kind == 7 then measured_at w64 marked_ledgers at bytes
     else Err (UnknownKind at kind)
 
 -- the record at the front

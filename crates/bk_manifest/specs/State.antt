@@ -1,5 +1,6 @@
 -- What a list of records means. Each record is about one subject: a log, the deletion of a ledger, its
--- fence, or one of its attributes. The last record about a subject stands; earlier ones are dead.
+-- fence, one of its attributes, or the manifest of the ledgers. The last record about a subject stands;
+-- earlier ones are dead.
 use Rattle.std.specs.Prelude.{◌≡◌, ℕ, List, [], ◌∷◌, Bool, true, false, Option, Some, None, IsSome, fold, if◌then◌else◌}
 use Rattle.std.specs.Ordering.{eq_by_cmp}
 use Rattle.std.specs.List.{AllByRecursion}
@@ -12,7 +13,8 @@ use Rattle.bk_manifest.specs.declared.state.LogState.{LogState}
 use Rattle.bk_manifest.specs.declared.state.LogState.TheVariants.{Made, Durable, Removed}
 use Rattle.bk_manifest.specs.declared.state.State.{State}
 use Rattle.bk_manifest.specs.Subject.{subject_cmp}
-use Rattle.bk_manifest.specs.Fact.{Fact, fact, made_log, durable_log, removed_log, deleted_ledger, fenced_ledger, attribute}
+use Rattle.bk_manifest.specs.declared.mark.Mark.{Mark}
+use Rattle.bk_manifest.specs.Fact.{Fact, fact, made_log, durable_log, removed_log, deleted_ledger, fenced_ledger, attribute, marked_ledgers}
 
 abbrev pub the_log : ℕ → Subject
 the_log log = record { kind = 1; id = log; attribute = 0 }
@@ -26,6 +28,9 @@ the_fence ledger = record { kind = 5; id = ledger; attribute = 0 }
 abbrev pub the_attribute : ℕ → ℕ → Subject
 the_attribute ledger kind = record { kind = 6; id = ledger; attribute = kind }
 
+abbrev pub the_ledgers : Subject
+the_ledgers = record { kind = 7; id = 0; attribute = 0 }
+
 -- what a record is about
 abbrev pub subject_of : Fact → Subject
 subject_of (made_log log) = the_log log
@@ -34,6 +39,7 @@ subject_of (removed_log log length) = the_log log
 subject_of (deleted_ledger ledger) = the_deletion ledger
 subject_of (fenced_ledger ledger) = the_fence ledger
 subject_of (attribute ledger kind bytes) = the_attribute ledger kind
+subject_of (marked_ledgers generation length) = the_ledgers
 
 abbrev pub is_about : Subject → Fact → Bool
 is_about subject one = eq_by_cmp subject_cmp (subject_of one) subject
@@ -69,6 +75,7 @@ log_state (Some (removed_log log length)) = Some (Removed length)
 log_state (Some (deleted_ledger ledger)) = None
 log_state (Some (fenced_ledger ledger)) = None
 log_state (Some (attribute ledger kind bytes)) = None
+log_state (Some (marked_ledgers generation length)) = None
 
 -- a log was made, and not removed since
 abbrev pub exists : Option LogState → Bool
@@ -93,6 +100,18 @@ attribute_bytes (Some (removed_log log length)) = None
 attribute_bytes (Some (deleted_ledger ledger)) = None
 attribute_bytes (Some (fenced_ledger ledger)) = None
 attribute_bytes (Some (attribute ledger kind bytes)) = Some bytes
+attribute_bytes (Some (marked_ledgers generation length)) = None
+
+-- how far the manifest of the ledgers was durable
+abbrev pub mark_in : Option Fact → Option Mark
+mark_in None = None
+mark_in (Some (made_log log)) = None
+mark_in (Some (durable_log log length)) = None
+mark_in (Some (removed_log log length)) = None
+mark_in (Some (deleted_ledger ledger)) = None
+mark_in (Some (fenced_ledger ledger)) = None
+mark_in (Some (attribute ledger kind bytes)) = None
+mark_in (Some (marked_ledgers generation length)) = Some (record { generation = generation; length = length })
 
 -- ---- the state in memory: a map from subjects to records, or to room for one
 

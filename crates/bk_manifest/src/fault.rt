@@ -4,6 +4,7 @@ ghost use Rattle.std.specs.Prelude.{◌≡◌};
 ghost use Rattle.bk_manifest.specs.declared.fault.ReadError.TheVariants as read;
 ghost use Rattle.bk_manifest.specs.declared.fault.WriteError.TheVariants as write;
 
+use crate::Mark;
 use std::alloc::{AllocError, AllocFailed};
 use thiserror::Error;
 
@@ -22,7 +23,7 @@ pub enum Fault {
     /// The checksum of the header does not fit its generation.
     #[error("bad manifest generation")]
     BadGeneration,
-    /// The batch at this position does not fit its checksums, and a later one does.
+    /// The batch at this position does not fit its checksums, and no crash can have left it so.
     #[error("damaged manifest {0}")]
     Damaged(u64),
     /// The batch at position `batch` fits, and has a record of this kind, which is not known.
@@ -31,6 +32,12 @@ pub enum Fault {
     /// The batch at this position fits, and its last record passes its end.
     #[error("cut record {0}")]
     CutRecord(u64),
+    /// It is missing or empty, and reached so far when it was marked.
+    #[error("manifest is missing, had {0}")]
+    Gone(Mark),
+    /// It lacks records that were durable when it was marked.
+    #[error("manifest has {found}, had {mark}")]
+    Behind { mark: Mark, found: Mark },
 }
 
 /// Why a manifest could not be read.

@@ -2,10 +2,10 @@
 
 ghost use Rattle.std.specs.Prelude.{◌≡◌, ◌<◌, length, IfOk};
 ghost use Rattle.std.specs.Int.{w32, w64};
-ghost use Rattle.bk_manifest.specs.Fact.{fact, facts, made_log, durable_log, removed_log, deleted_ledger, fenced_ledger};
+ghost use Rattle.bk_manifest.specs.Fact.{fact, facts, made_log, durable_log, removed_log, deleted_ledger, fenced_ledger, marked_ledgers};
 ghost use Rattle.bk_manifest.specs.Reading.{Gives, number_at, string_at, measured_at, attribute_at, fact_of_kind, fact_at, facts_of};
 
-use crate::{Fault, ReadError, Record};
+use crate::{Fault, Mark, ReadError, Record};
 use std::alloc::Global;
 
 /// Kinds of records, the first byte of each.
@@ -20,6 +20,8 @@ pub(crate) const DELETED_LEDGER: u8 = 4;
 pub(crate) const FENCED_LEDGER: u8 = 5;
 
 pub(crate) const ATTRIBUTE: u8 = 6;
+
+pub(crate) const MARKED_LEDGERS: u8 = 7;
 
 /// Returns the number of four bytes at the front, and the bytes after it.
 fn u32_at(batch: u64, bytes: &[u8]) -> Result<(u32, &[u8]), ReadError>
@@ -66,7 +68,7 @@ fn bytes_at(alloc: Global, batch: u64, bytes: &[u8]) -> Result<(Vec<u8>, &[u8]),
 
 #[tactic(auto, unfolding(crate::specs::Reading::measured_at))]
 fn durable_record(batch: u64, bytes: &[u8]) -> Result<(Record, &[u8]), ReadError>
-    ensures value { Gives (λ x. (fact x.0, x.1.now)) result (measured_at durable_log batch bytes.now) }
+    ensures value { Gives (λ x. (fact x.0, x.1.now)) result (measured_at w32 durable_log batch bytes.now) }
     ensures shorter { IfOk result (λ x. length x.1.now < length bytes.now) }
 {
     let (log, rest) = u32_at(batch, bytes)?;
@@ -76,7 +78,7 @@ fn durable_record(batch: u64, bytes: &[u8]) -> Result<(Record, &[u8]), ReadError
 
 #[tactic(auto, unfolding(crate::specs::Reading::measured_at))]
 fn removed_record(batch: u64, bytes: &[u8]) -> Result<(Record, &[u8]), ReadError>
-    ensures value { Gives (λ x. (fact x.0, x.1.now)) result (measured_at removed_log batch bytes.now) }
+    ensures value { Gives (λ x. (fact x.0, x.1.now)) result (measured_at w32 removed_log batch bytes.now) }
     ensures shorter { IfOk result (λ x. length x.1.now < length bytes.now) }
 {
     let (log, rest) = u32_at(batch, bytes)?;
@@ -100,6 +102,16 @@ fn attribute(alloc: Global, batch: u64, bytes: &[u8]) -> Result<(Record, &[u8]),
         },
         rest,
     ))
+}
+
+#[tactic(auto, unfolding(crate::specs::Reading::measured_at))]
+fn marked_record(batch: u64, bytes: &[u8]) -> Result<(Record, &[u8]), ReadError>
+    ensures value { Gives (λ x. (fact x.0, x.1.now)) result (measured_at w64 marked_ledgers batch bytes.now) }
+    ensures shorter { IfOk result (λ x. length x.1.now < length bytes.now) }
+{
+    let (generation, rest) = u64_at(batch, bytes)?;
+    let (length, rest) = u64_at(batch, rest)?;
+    Ok((Record::MarkedLedgers(Mark { generation, length }), rest))
 }
 
 /// Returns the record of a kind whose fields are at the front, and the bytes after it.
@@ -129,6 +141,7 @@ fn record_of_kind(
             Ok((Record::FencedLedger(ledger), rest))
         }
         ATTRIBUTE => attribute(alloc, batch, bytes),
+        MARKED_LEDGERS => marked_record(batch, bytes),
         _ => Err(ReadError::Fault(Fault::UnknownKind { batch, kind })),
     }
 }

@@ -1,11 +1,12 @@
 //! Theorems about the definitions. The functions do nothing.
 
-ghost use Rattle.std.specs.Prelude.{◌≡◌, ℕ, ◌++◌, ◌<◌, ◌^◌, List, Ok, length, take};
+ghost use Rattle.std.specs.Prelude.{◌≡◌, ℕ, ◌++◌, ◌<◌, ◌≤◌, ◌^◌, List, Ok, false, length, take};
 ghost use Rattle.std.specs.List.{AllByRecursion};
 ghost use Rattle.bk_manifest.specs.Checksum.{IsOneChecksum};
 ghost use Rattle.bk_manifest.specs.Fact.{Fact, Fits, AreFacts, body_of};
 ghost use Rattle.bk_manifest.specs.Reading.{IsBytes, facts_of};
-ghost use Rattle.bk_manifest.specs.Batch.{batch_of, piece_at};
+ghost use Rattle.bk_manifest.specs.Batch.{batch_of, piece_at, is_whole, any_behind};
+ghost use Rattle.bk_manifest.specs.Holes.{MayBeLeft};
 ghost use Rattle.bk_manifest.specs.File.{Content, written, content_of, all_facts, IsEnd};
 ghost use Rattle.bk_manifest.specs.declared.piece.Piece.TheVariants.{Cut};
 
@@ -40,10 +41,32 @@ pub fn written_manifest_is_read()
 {}
 
 /// Whatever bytes follow the whole batches of a manifest, as a crash may leave any, their records are
-/// the first that are read, unless reading reports a fault.
+/// the first that are read, unless reading reports a fault. And what is found reaches as far, in the
+/// same generation: no mark of these batches rules it out.
 pub fn records_survive()
-    ensures { (generation : ℕ) (batches : List (List Fact)) (tail : List ℕ) (found : Content)
+    ensures records { (generation : ℕ) (batches : List (List Fact)) (tail : List ℕ) (found : Content)
         → AllByRecursion AreFacts batches → generation < 2 ^ 64
         → content_of (written generation batches ++ tail) ≡ Ok found
         → (more : List Fact) × (found.facts ≡ all_facts batches ++ more) }
+    ensures reach { (generation : ℕ) (batches : List (List Fact)) (tail : List ℕ) (found : Content)
+        → AllByRecursion AreFacts batches → generation < 2 ^ 64
+        → content_of (written generation batches ++ tail) ≡ Ok found
+        → (found.generation ≡ generation) × (length (written generation batches) ≤ found.stop) }
+{}
+
+/// What a crash leaves of a batch that was being appended reads as a torn end, with the records before
+/// it: a front of the batch, of which any sectors were never written. Premise: no checksum fits by
+/// chance, that of what is left or of a part behind its place.
+pub fn torn_append_is_torn()
+    ensures { (generation : ℕ) (batches : List (List Fact)) (records : List Fact) (left : List ℕ)
+        → AllByRecursion AreFacts batches → AreFacts records → generation < 2 ^ 64
+        → MayBeLeft (length (written generation batches)) (batch_of generation (length (written generation batches)) (body_of records)) left
+        → is_whole (piece_at generation (length (written generation batches)) left) ≡ false
+        → any_behind generation (written generation batches ++ left) (length (written generation batches)) ≡ false
+        → content_of (written generation batches ++ left) ≡ Ok (record {
+          generation = generation;
+          facts = all_facts batches;
+          stop = length (written generation batches);
+          torn = length left;
+        }) }
 {}

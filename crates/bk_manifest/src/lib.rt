@@ -6,8 +6,10 @@ mod appending;
 mod checksum;
 mod fault;
 mod fields;
+mod holes;
 mod laws;
 mod manifest;
+mod mark;
 mod mem_manifest;
 mod piece;
 mod reading;
@@ -18,8 +20,12 @@ mod subject;
 mod writing;
 
 pub use fault::{Fault, FileFault, ManifestError, ReadError, WriteError};
-pub use laws::{one_checksum, records_survive, written_manifest_is_read, written_records_are_read};
+pub use laws::{
+    one_checksum, records_survive, torn_append_is_torn, written_manifest_is_read,
+    written_records_are_read,
+};
 pub use manifest::{Manifest, ManifestFile, Opened};
+pub use mark::Mark;
 pub use mem_manifest::{MemManifest, Plan};
 pub use reading::{Contents, HEADER, read_manifest};
 pub use record::Record;

@@ -1,6 +1,6 @@
 //! A manifest that is kept in a file.
 
-ghost use Rattle.std.specs.Prelude.{◌≡◌, ◌++◌, ◌∷◌, ◌≤◌, ◌-◌, ◌^◌, min, ℕ, Bool, List, [], length, take, IsTrue, IsErrOf, IfOk, IfErr, IfSome, IfNone, OnOk, OnErr, Ok, Err};
+ghost use Rattle.std.specs.Prelude.{◌≡◌, ◌⊎◌, ◌++◌, ◌∷◌, ◌≤◌, ◌<◌, ◌-◌, ◌^◌, min, true, false, ℕ, Bool, List, [], length, take, IsTrue, IsErrOf, IfOk, IfErr, IfSome, IfNone, OnOk, OnErr, Ok, Err};
 ghost use Rattle.bk_manifest.specs.Fact.{Fact, fact, facts, AreFacts};
 ghost use Rattle.bk_manifest.specs.State.{IsStateOf, SameMeaning, without_deletions};
 ghost use Rattle.bk_manifest.specs.declared.fault.Fault.{Fault};
@@ -8,9 +8,10 @@ ghost use Rattle.bk_manifest.specs.File.{content_of};
 ghost use Rattle.bk_manifest.specs.Keeping.{FailsExactlyIf, IsSameFile, IsOldOrNew, KeepsFront, durable, FindsDurable, HasOpened, OnlyNoted, IsOneOf};
 
 use crate::appending::appended;
-use crate::reading::HEADER;
 use crate::rewriting::replaced;
-use crate::{FileFault, ManifestError, NotRewritten, Record, State, new_header, read_manifest};
+use crate::{
+    FileFault, ManifestError, Mark, NotRewritten, Record, State, new_header, read_manifest,
+};
 use std::alloc::{AllocError, Global};
 use std::marker::Model;
 use std::mem;
@@ -69,15 +70,47 @@ pub trait ManifestFile: Drop {
         ensures durable { IsTrue (honest self.old) → OnOk result (length (bytes self.new) ≤ synced self.new) };
 }
 
-/// A manifest in a file, and the state that its records mean. On an honest file the state is that of
-/// bytes that were synced. Records are noted first, and are durable after the next `commit`.
+/// A manifest in a file, and the state that its records mean. Records are noted first, and are durable
+/// after the next `commit`.
+///
+/// After a call that failed, the file may have other bytes behind the batches that count. So the next
+/// call that writes puts a new file of these in its place first (`settle`). The same holds of a file
+/// that was found and could not be written anew: its records count, but may not be durable, and
+/// nothing more is recorded before they are (`is_written`).
 #[derive(Drop)]
 pub struct Manifest<F: ManifestFile> {
     file: F,
     generation: u64,
-    end: usize,
+    /// Header and batches that count: the beginning of the file.
+    front: Vec<u8>,
     state: State,
     noted: Vec<Record>,
+    /// Whether this process wrote the front, so that it is durable.
+    is_written: bool,
+    /// Whether the file is the front, and no call on it failed since.
+    is_exact: bool,
+}
+
+/// Replaces a file by one of these bytes. Returns false if the device fails: then it is the old file or
+/// the new one.
+fn is_replaced<F: ManifestFile>(
+    alloc: Global,
+    file: &mut F,
+    whole: &[u8],
+) -> Result<bool, ManifestError>
+    ensures honest { F.honest file.new ≡ F.honest file.old }
+    ensures later { F.failures file.old ≤ F.failures file.new }
+    ensures failed { IfOk result (λ is. is ≡ false → F.failures file.old < F.failures file.new) }
+    ensures one { IsTrue (F.honest file.old) → IsOldOrNew (F.bytes file.old) (F.synced file.old) whole.now (F.bytes file.new) (F.synced file.new) }
+    ensures bytes { IsTrue (F.honest file.old) → IfOk result (λ is. is ≡ true → F.bytes file.new ≡ whole.now) }
+    ensures durable { IsTrue (F.honest file.old) → IfOk result (λ is. is ≡ true → length (F.bytes file.new) ≤ F.synced file.new) }
+    ensures only { OnErr result (IsErrOf result ManifestError.Memory) }
+{
+    match file.replace(alloc, whole) {
+        Ok(()) => Ok(true),
+        Err(FileFault::Disk) => Ok(false),
+        Err(FileFault::Memory) => Err(ManifestError::Memory),
+    }
 }
 
 /// A manifest that was opened.
@@ -86,11 +119,12 @@ pub struct Opened<F: ManifestFile> {
     pub manifest: Manifest<F>,
     /// Number of records in the file, with dead ones.
     pub records: usize,
-    /// Number of torn bytes at the end. The next `commit` writes over them.
+    /// Number of torn bytes that were at the end.
     pub torn: usize,
 }
 
 impl<F: ManifestFile> Model for Manifest<F> {
+    ghost use Rattle.std.specs.Prelude.{length};
     ghost use Rattle.bk_manifest.specs.Fact.{facts};
     ghost use Rattle.bk_manifest.specs.Keeping.{Kept, kept_code, IsKept};
 
@@ -104,11 +138,12 @@ impl<F: ManifestFile> Model for Manifest<F> {
       honest = F.honest m.file;
       failures = F.failures m.file;
       generation = m.generation;
-      stop = m.end;
+      stop = length m.front.items;
       pending = facts m.noted.items;
+      written = m.is_written;
     } };
 
-    ghost invariant = { λ m. IsKept (F.bytes m.file) (F.synced m.file) (F.honest m.file) m.generation m.end m.state (facts m.noted.items) };
+    ghost invariant = { λ m. IsKept (F.bytes m.file) (F.synced m.file) (F.honest m.file) m.generation m.front.items m.state (facts m.noted.items) m.is_written m.is_exact };
 }
 
 impl<F: ManifestFile> Manifest<F> {
@@ -122,52 +157,61 @@ impl<F: ManifestFile> Manifest<F> {
         ensures honest { IfOk result (λ m. m.honest ≡ F.honest file) }
         ensures empty { IsTrue (F.honest file) → IfOk result (λ m. durable m ≡ []) }
         ensures pending { IfOk result (λ m. m.pending ≡ []) }
+        ensures written { IfOk result (λ m. m.written ≡ true) }
+        ensures generation { IfOk result (λ m. m.generation ≡ generation) }
     {
         let mut file = file;
-        let header = new_header(alloc, generation)?;
-        file.replace(alloc, &header)?;
+        let front = new_header(alloc, generation)?;
+        file.replace(alloc, &front)?;
         let state = State::new(alloc);
         let noted = Vec::new(alloc);
         Ok(Manifest {
             file,
             generation,
-            end: HEADER,
+            front,
             state,
             noted,
+            is_written: true,
+            is_exact: true,
         })
     }
 
-    /// Opens the manifest of a file. Returns `None` if the file is empty or absent. Syncs the file,
-    /// since a program that ended may have left bytes that are not durable. A torn end stays until the
-    /// next `commit` writes over it.
+    /// Opens the manifest of a file. Returns `None` if the file is empty or absent. Puts a new file of
+    /// its whole batches in its place, since a program that ended may have left bytes that are not
+    /// durable, or a torn end. If the device fails in this, the manifest is opened all the same, and is
+    /// not written (`is_written`).
     ///
     /// # Errors
     ///
     /// - `Memory` if an allocation is refused.
-    /// - `Disk` if the device fails.
+    /// - `Disk` if the file cannot be read.
     /// - `Fault` as `read_manifest` reports.
     pub fn open(alloc: Global, file: F) -> Result<Option<Opened<F>>, ManifestError>
         ensures honest { IfOk result (λ found. IfSome found (λ opened. opened.manifest.honest ≡ F.honest file)) }
         ensures absent { IsTrue (F.honest file) → IfOk result (λ found. IfNone found (F.bytes file ≡ [])) }
         ensures found { IsTrue (F.honest file) → IfOk result (λ found. IfSome found (λ opened. HasOpened (F.bytes file) opened.manifest opened.records opened.torn)) }
         ensures fault { IsTrue (F.honest file) → (fault : Fault) → IsErrOf result (ManifestError.Fault fault) → content_of (F.bytes file) ≡ Err fault }
+        ensures written { IfOk result (λ found. IfSome found (λ opened. (opened.manifest.written ≡ true) ⊎ (F.failures file < opened.manifest.failures))) }
     {
         let mut file = file;
-        let bytes = file.read(alloc)?;
-        if bytes.is_empty() {
+        let mut front = file.read(alloc)?;
+        if front.is_empty() {
             return Ok(None);
         }
-        let contents = read_manifest(alloc, &bytes)?;
-        file.sync()?;
+        let contents = read_manifest(alloc, &front)?;
+        front.truncate(contents.end);
+        let is_written = is_replaced(alloc, &mut file, &front)?;
         let records = contents.records.len();
         let state = State::of(alloc, contents.records)?;
         let noted = Vec::new(alloc);
         let manifest = Manifest {
             file,
             generation: contents.generation,
-            end: contents.end,
+            front,
             state,
             noted,
+            is_written,
+            is_exact: is_written,
         };
         Ok(Some(Opened {
             manifest,
@@ -209,17 +253,49 @@ impl<F: ManifestFile> Manifest<F> {
         self.noted.clear();
     }
 
-    /// Writes all noted records as one batch and syncs the file once. Then they are durable, and the
-    /// state has them.
+    /// Puts a new file of the batches that count in the place of this one, durably, unless the file is
+    /// that already. Then an opening finds the durable records, and none of the noted ones, which stay
+    /// noted.
     ///
-    /// An error changes neither the durable records nor the noted ones. The file may have the batch, so
-    /// a later opening may find its records: call `commit` again, which writes the batch anew at the
-    /// same position before it syncs, or `withdraw`.
+    /// An error changes nothing, except that the file may be the new one.
     ///
     /// # Errors
     ///
-    /// - `TooLong` if the bytes of an attribute, or of all records together, are 2^32 or more, or the
-    ///   file would be too long.
+    /// - `Memory` if an allocation is refused.
+    /// - `Disk` if the device fails.
+    pub fn settle(&mut self, alloc: Global) -> Result<(), ManifestError>
+        ensures honest { self.new.honest ≡ self.old.honest }
+        ensures cause { FailsExactlyIf self.old.failures self.new.failures (IsErrOf result ManifestError.Disk) }
+        ensures same { IsTrue self.old.honest → durable self.new ≡ durable self.old }
+        ensures found { IsTrue self.old.honest → OnOk result (FindsDurable self.new) }
+        ensures finds { IsTrue self.old.honest → FindsDurable self.old → FindsDurable self.new }
+        ensures pending { self.new.pending ≡ self.old.pending }
+        ensures generation { self.new.generation ≡ self.old.generation }
+        ensures stop { self.new.stop ≡ self.old.stop }
+        ensures alone { IsTrue self.old.honest → OnOk result (length self.new.bytes ≡ self.new.stop) }
+        ensures written { OnOk result (self.new.written ≡ true) }
+        ensures stays { IsTrue self.old.written → IsTrue self.new.written }
+        ensures only { OnErr result (IsErrOf result ManifestError.Disk ⊎ IsErrOf result ManifestError.Memory) }
+    {
+        if self.is_exact {
+            return Ok(());
+        }
+        self.file.replace(alloc, &self.front)?;
+        self.is_written = true;
+        self.is_exact = true;
+        Ok(())
+    }
+
+    /// Writes all noted records as one batch and syncs the file once, after `settle`. Then they are
+    /// durable, and the state has them.
+    ///
+    /// An error changes neither the durable records nor the noted ones. The file may have the batch, so
+    /// a later opening may find its records, until the next call writes the file anew: `commit` again,
+    /// `settle` or `withdraw`.
+    ///
+    /// # Errors
+    ///
+    /// - `TooLong` if the bytes of an attribute, or of all records together, are 2^32 or more.
     /// - `Memory` if an allocation is refused.
     /// - `Disk` if the device fails.
     pub fn commit(&mut self, alloc: Global) -> Result<(), ManifestError>
@@ -232,30 +308,34 @@ impl<F: ManifestFile> Manifest<F> {
         ensures kept { OnErr result (self.new.pending ≡ self.old.pending) }
         ensures stop { self.old.stop ≤ self.new.stop }
         ensures no_fault { (fault : Fault) → IsErrOf result (ManifestError.Fault fault) → ⊥ }
-        ensures too_long { IsErrOf result ManifestError.TooLong → AreFacts self.old.pending → 2 ^ 63 ≤ self.old.stop }
+        ensures too_long { IsErrOf result ManifestError.TooLong → AreFacts self.old.pending → ⊥ }
+        ensures generation { self.new.generation ≡ self.old.generation }
+        ensures written { OnOk result (self.new.written ≡ true) }
+        ensures stays { IsTrue self.old.written → IsTrue self.new.written }
     {
-        let end = appended(
+        self.settle(alloc)?;
+        self.is_exact = false;
+        appended(
             alloc,
             &mut self.file,
             self.generation,
-            self.end,
+            &mut self.front,
             &self.noted,
         )?;
+        self.is_exact = true;
         let none = Vec::new(alloc);
         let noted = mem::replace(&mut self.noted, none);
         self.state.settle(noted);
-        self.end = end;
         Ok(())
     }
 
-    /// Takes the noted records back, which a `commit` that failed may have left in the file: writes an
-    /// empty batch in their place and syncs the file. Then an opening finds the durable records only.
+    /// Takes the noted records back, which a `commit` that failed may have left in the file. Then an
+    /// opening finds the durable records only. Calls no device if no call failed.
     ///
     /// An error leaves them noted, and maybe in the file.
     ///
     /// # Errors
     ///
-    /// - `TooLong` if the file would be too long.
     /// - `Memory` if an allocation is refused.
     /// - `Disk` if the device fails.
     pub fn withdraw(&mut self, alloc: Global) -> Result<(), ManifestError>
@@ -263,15 +343,17 @@ impl<F: ManifestFile> Manifest<F> {
         ensures cause { FailsExactlyIf self.old.failures self.new.failures (IsErrOf result ManifestError.Disk) }
         ensures same { IsTrue self.old.honest → durable self.new ≡ durable self.old }
         ensures found { IsTrue self.old.honest → OnOk result (FindsDurable self.new) }
+        ensures finds { IsTrue self.old.honest → FindsDurable self.old → FindsDurable self.new }
         ensures none { OnOk result (self.new.pending ≡ []) }
         ensures kept { OnErr result (self.new.pending ≡ self.old.pending) }
-        ensures stop { self.old.stop ≤ self.new.stop }
-        ensures no_fault { (fault : Fault) → IsErrOf result (ManifestError.Fault fault) → ⊥ }
-        ensures too_long { IsErrOf result ManifestError.TooLong → 2 ^ 63 ≤ self.old.stop }
+        ensures generation { self.new.generation ≡ self.old.generation }
+        ensures stop { self.new.stop ≡ self.old.stop }
+        ensures written { OnOk result (self.new.written ≡ true) }
+        ensures stays { IsTrue self.old.written → IsTrue self.new.written }
+        ensures only { OnErr result (IsErrOf result ManifestError.Disk ⊎ IsErrOf result ManifestError.Memory) }
     {
-        let end = appended(alloc, &mut self.file, self.generation, self.end, &[])?;
+        self.settle(alloc)?;
         self.noted.clear();
-        self.end = end;
         Ok(())
     }
 
@@ -286,7 +368,8 @@ impl<F: ManifestFile> Manifest<F> {
         ensures honest { IfOk result (λ m. m.honest ≡ self.honest) }
         ensures ok { IsTrue self.honest → IfOk result (λ m. SameMeaning (without_deletions forgotten.now (durable self)) (durable m)) }
         ensures pending { IfOk result (λ m. m.pending ≡ self.pending) }
-        ensures err { IsTrue self.honest → IfErr result (λ left. IsOneOf (F.bytes left.file) (F.synced left.file) (durable self) (without_deletions forgotten.now (durable self))) }
+        ensures written { IfOk result (λ m. m.written ≡ true) }
+        ensures err { IsTrue self.honest → IsTrue self.written → IfErr result (λ left. IsOneOf (F.bytes left.file) (F.synced left.file) (durable self) (without_deletions forgotten.now (durable self))) }
     {
         let Manifest {
             mut file,
@@ -303,12 +386,14 @@ impl<F: ManifestFile> Manifest<F> {
         }
         let generation = generation.wrapping_add(1);
         match replaced(alloc, &mut file, generation, &state) {
-            Ok(end) => Ok(Manifest {
+            Ok(front) => Ok(Manifest {
                 file,
                 generation,
-                end,
+                front,
                 state,
                 noted,
+                is_written: true,
+                is_exact: true,
             }),
             Err(error) => Err(NotRewritten { file, error }),
         }
@@ -319,6 +404,24 @@ impl<F: ManifestFile> Manifest<F> {
         ensures { IsTrue self.now.honest → IsStateOf (durable self.now) result.now }
     {
         &self.state
+    }
+
+    /// Returns whether this process wrote the batches that count, so that they are durable.
+    pub fn is_written(&self) -> bool
+        ensures { result ≡ self.now.written }
+    {
+        self.is_written
+    }
+
+    /// Returns how far the manifest reaches.
+    pub fn mark(&self) -> Mark
+        ensures generation { result.generation ≡ self.now.generation }
+        ensures length { result.length ≡ self.now.stop }
+    {
+        Mark {
+            generation: self.generation,
+            length: self.front.len() as u64,
+        }
     }
 
     /// Returns the noted records.

@@ -2,9 +2,10 @@
 
 ghost use Rattle.std.specs.Prelude.{◌≡◌, ◌+◌, ◌<◌, ◌≤◌, ◌^◌, length, drop};
 ghost use Rattle.std.specs.Int.{w32, from_be_bytes};
-ghost use Rattle.bk_manifest.specs.Batch.{body_at, piece_at, any_behind, HoldsWhole};
+ghost use Rattle.bk_manifest.specs.Batch.{body_at, piece_at, any_behind, is_torn, HoldsWhole};
 
 use crate::checksum::batch_checksum;
+use crate::holes::{count_in_head, has_hole};
 
 /// Length in bytes of the head of a batch: the size of its body, and a checksum of the size.
 pub(crate) const BATCH_HEAD: usize = 8;
@@ -19,8 +20,9 @@ pub enum Piece {
     Whole { size: usize },
     /// The bytes end before the head of a batch does, or before the batch does by its head.
     Cut,
-    /// A checksum does not fit.
-    Misfit,
+    /// A checksum does not fit. These bytes may be the batch's: all in the sectors of its head if that
+    /// does not fit, else all of the batch.
+    Misfit { size: usize },
 }
 
 impl Piece {
@@ -59,7 +61,9 @@ fn read_body(generation: u64, place: u64, bytes: &[u8]) -> Piece
     if batch_checksum(generation, place, field, body) == number_at(bytes, BATCH_HEAD + size) {
         Piece::Whole { size }
     } else {
-        Piece::Misfit
+        Piece::Misfit {
+            size: size + AROUND,
+        }
     }
 }
 
@@ -76,12 +80,14 @@ pub(crate) fn read_piece(generation: u64, place: u64, bytes: &[u8]) -> Piece
     if batch_checksum(generation, place, field, &[]) == number_at(bytes, 4) {
         read_body(generation, place, bytes)
     } else {
-        Piece::Misfit
+        Piece::Misfit {
+            size: count_in_head(place, bytes),
+        }
     }
 }
 
 /// Returns whether a whole batch stands somewhere behind a place.
-pub(crate) fn has_batch_behind(generation: u64, file: &[u8], place: usize) -> bool
+fn has_batch_behind(generation: u64, file: &[u8], place: usize) -> bool
     requires { place ≤ length file.now }
     ensures { result ≡ any_behind generation file.now place }
 {
@@ -91,4 +97,13 @@ pub(crate) fn has_batch_behind(generation: u64, file: &[u8], place: usize) -> bo
         }
     }
     false
+}
+
+/// Returns whether a misfit of so many bytes at a place is what a crash left of the last batch: a sector
+/// of it was never written, and no whole batch stands behind it.
+pub(crate) fn is_torn(generation: u64, file: &[u8], place: usize, size: usize) -> bool
+    requires { place + size ≤ length file.now }
+    ensures { result ≡ is_torn generation file.now place size }
+{
+    has_hole(place, &file[place..place + size]) && !has_batch_behind(generation, file, place)
 }

@@ -8,8 +8,8 @@ ghost use Rattle.bk_manifest.specs.File.{Content, content, content_of, generatio
 
 use crate::checksum::checksum;
 use crate::fields::record_at;
-use crate::piece::{AROUND, BATCH_HEAD, Piece, has_batch_behind, number_at, read_piece};
-use crate::{Fault, ReadError, Record};
+use crate::piece::{AROUND, BATCH_HEAD, Piece, is_torn, number_at, read_piece};
+use crate::{Fault, Mark, ReadError, Record};
 use std::alloc::Global;
 
 /// Length of the header in bytes: magic, version, generation, and a checksum of these.
@@ -32,6 +32,21 @@ pub struct Contents {
     pub end: usize,
     /// Number of torn bytes after that position; they are no records.
     pub torn: usize,
+}
+
+impl Contents {
+    ghost use Rattle.std.specs.Prelude.{◌≡◌};
+
+    /// Returns how far the manifest reaches.
+    pub fn mark(&self) -> Mark
+        ensures generation { result.generation ≡ self.now.generation }
+        ensures length { result.length ≡ self.now.end }
+    {
+        Mark {
+            generation: self.generation,
+            length: self.end as u64,
+        }
+    }
 }
 
 /// Returns the records of a body.
@@ -65,11 +80,11 @@ fn found_in(alloc: Global, generation: u64, file: &[u8]) -> Result<(Vec<Record>,
                 place += size + AROUND;
             }
             Piece::Cut => return Ok((records, place)),
-            Piece::Misfit => {
-                if has_batch_behind(generation, file, place) {
-                    return Err(ReadError::Fault(Fault::Damaged(place as u64)));
+            Piece::Misfit { size } => {
+                if is_torn(generation, file, place, size) {
+                    return Ok((records, place));
                 }
-                return Ok((records, place));
+                return Err(ReadError::Fault(Fault::Damaged(place as u64)));
             }
         }
     }
@@ -123,15 +138,15 @@ fn read_contents(alloc: Global, file: &[u8]) -> Result<Contents, ReadError>
 /// Reads a manifest. Returns the records of all whole batches.
 ///
 /// An end that is torn, as a crash leaves it, is no error: `torn` says how many bytes it has. It is
-/// torn if the last batch is cut by the end of the file, or if no batch fits at a position and none
-/// behind it.
+/// torn if the last batch is cut by the end of the file, or if a sector of it, 512 bytes, was never
+/// written: its part of the batch is zeros.
 ///
 /// # Errors
 ///
 /// The first fault from the left:
 ///
 /// - `Short`, `BadMagic`, `Version`, `BadGeneration`, in this order, for the header;
-/// - per batch, with its position: `Damaged` if it does not fit its checksums and a later one does;
+/// - per batch, with its position: `Damaged` if it does not fit its checksums and is no torn end;
 ///   `CutRecord` or `UnknownKind` at the first of its records that is not whole or not known.
 ///
 /// `Memory` if an allocation is refused.

@@ -1,6 +1,8 @@
-//! Records: one fact about a log or a ledger.
+//! Records: one fact about a log, a ledger, or the manifest of the ledgers.
 
-/// One fact about a log or a ledger. `State` says what a list of records means.
+use crate::Mark;
+
+/// One fact about a log, a ledger, or the manifest of the ledgers. `State` says what a list of records means.
 #[derive(Debug, PartialEq, Eq, Drop)]
 pub enum Record {
     /// The log's file is about to be created.
@@ -26,4 +28,6 @@ pub enum Record {
         kind: u32,
         bytes: Vec<u8>,
     },
+    /// The manifest of the ledgers beside this one was durable so far.
+    MarkedLedgers(Mark),
 }

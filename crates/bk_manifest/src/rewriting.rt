@@ -1,6 +1,6 @@
 //! The shortest manifest of a state.
 
-ghost use Rattle.std.specs.Prelude.{◌≡◌, ◌∷◌, [], ℕ, List, IfOk, OnOk, OnErr, IsTrue};
+ghost use Rattle.std.specs.Prelude.{◌≡◌, ◌∷◌, [], ℕ, List, IfOk, OnOk, OnErr, IsTrue, length};
 ghost use Rattle.bk_manifest.specs.Fact.{Fact, AreFacts};
 ghost use Rattle.bk_manifest.specs.File.{written};
 ghost use Rattle.bk_manifest.specs.Keeping.{IsBelieved, IsOneOf, MeansAt, durable_up_to};
@@ -36,20 +36,21 @@ pub fn rewritten(alloc: Global, generation: u64, state: &State) -> Result<Vec<u8
     Ok(whole)
 }
 
-/// Replaces a file by the shortest manifest of a state, and returns its length.
+/// Replaces a file by the shortest manifest of a state, and returns its bytes.
 pub(crate) fn replaced<F: ManifestFile>(
     alloc: Global,
     file: &mut F,
     generation: u64,
     state: &State,
-) -> Result<usize, ManifestError>
+) -> Result<Vec<u8>, ManifestError>
     ensures honest { F.honest file.new ≡ F.honest file.old }
     ensures ok { IsTrue (F.honest file.old) → (records : List Fact) → IsStateOf records state.now
-        → IfOk result (λ end. MeansAt (F.bytes file.new) (F.synced file.new) generation end records) }
+        → IfOk result (λ whole. MeansAt (F.bytes file.new) (F.synced file.new) generation (length whole.items) records) }
+    ensures whole { IsTrue (F.honest file.old) → IfOk result (λ whole. F.bytes file.new ≡ whole.items) }
     ensures err { IsTrue (F.honest file.old) → (was stop : ℕ) (records : List Fact) → IsBelieved (F.bytes file.old) (F.synced file.old) was stop
         → IsStateOf records state.now → OnErr result (IsOneOf (F.bytes file.new) (F.synced file.new) (durable_up_to stop (F.bytes file.old)) records) }
 {
     let whole = rewritten(alloc, generation, state)?;
     file.replace(alloc, &whole)?;
-    Ok(whole.len())
+    Ok(whole)
 }

@@ -4,8 +4,8 @@ ghost use Rattle.std.specs.Prelude.{◌≡◌, ◌++◌, ◌∷◌, [], OnOk, le
 ghost use Rattle.bk_manifest.specs.Fact.{facts};
 ghost use Rattle.bk_manifest.specs.State.{standing_in};
 
-use crate::Record;
 use crate::subject::Subject;
+use crate::{Mark, Record};
 use std::alloc::{AllocError, Global};
 use std::collections::BTreeMap;
 
@@ -20,7 +20,8 @@ pub enum LogState {
     Removed { length: u64 },
 }
 
-/// What a list of records means: the last record about each log, deletion, fence and attribute.
+/// What a list of records means: the last record about each log, deletion, fence and attribute, and
+/// about the manifest of the ledgers.
 /// Look-ups take logarithmic time.
 #[derive(Drop)]
 pub struct State {
@@ -44,6 +45,7 @@ impl Record {
             Record::DeletedLedger(ledger) => Subject::of_deletion(*ledger),
             Record::FencedLedger(ledger) => Subject::of_fence(*ledger),
             Record::Attribute { ledger, kind, .. } => Subject::of_attribute(*ledger, *kind),
+            Record::MarkedLedgers(_) => Subject::of_ledgers(),
         }
     }
 
@@ -72,13 +74,14 @@ impl Record {
                 kind: *kind,
                 bytes: Vec::from_slice(alloc, bytes)?,
             },
+            Record::MarkedLedgers(mark) => Record::MarkedLedgers(*mark),
         })
     }
 }
 
 impl Subject {
     ghost use Rattle.std.specs.Prelude.{◌≡◌};
-    ghost use Rattle.bk_manifest.specs.State.{the_log, the_deletion, the_fence, the_attribute};
+    ghost use Rattle.bk_manifest.specs.State.{the_log, the_deletion, the_fence, the_attribute, the_ledgers};
 
     pub(crate) fn of_log(log: u32) -> Subject
         ensures { result ≡ the_log log }
@@ -119,6 +122,16 @@ impl Subject {
             attribute: kind,
         }
     }
+
+    pub(crate) fn of_ledgers() -> Subject
+        ensures { result ≡ the_ledgers }
+    {
+        Subject {
+            kind: 7,
+            id: 0,
+            attribute: 0,
+        }
+    }
 }
 
 /// Appends a copy of a record, if there is one.
@@ -152,7 +165,7 @@ impl State {
     ghost use Rattle.std.specs.Prelude.{◌≡◌, [], ◌∷◌, List, OnOk, OnErr, IfOk, IsSome, IsTrue, is_some, length, nat_lt, ◌*◌};
     ghost use Rattle.std.specs.Option.{option_map};
     ghost use Rattle.bk_manifest.specs.Fact.{Fact, fact, facts};
-    ghost use Rattle.bk_manifest.specs.State.{said, subject_of, the_log, the_deletion, the_fence, the_attribute, log_state, exists, length_of, attribute_bytes, IsAfter, IsStateOf, IsSameState, HasMemory, HaveMemory, KeepsMemory, SameMeaning, standing, without_deletion, without_deletions};
+    ghost use Rattle.bk_manifest.specs.State.{said, subject_of, the_log, the_deletion, the_fence, the_attribute, the_ledgers, log_state, exists, length_of, attribute_bytes, mark_in, IsAfter, IsStateOf, IsSameState, HasMemory, HaveMemory, KeepsMemory, SameMeaning, standing, without_deletion, without_deletions};
 
     /// Returns the state of no records.
     pub fn new(alloc: Global) -> State
@@ -300,6 +313,16 @@ impl State {
     {
         match self.said(Subject::of_attribute(ledger, kind)) {
             Some(Record::Attribute { bytes, .. }) => Some(bytes.as_slice()),
+            _ => None,
+        }
+    }
+
+    /// Returns how far the manifest of the ledgers was durable, if a record says so.
+    pub fn marked_ledgers(&self) -> Option<Mark>
+        ensures { result ≡ mark_in (said self.now the_ledgers) }
+    {
+        match self.said(Subject::of_ledgers()) {
+            Some(Record::MarkedLedgers(mark)) => Some(*mark),
             _ => None,
         }
     }

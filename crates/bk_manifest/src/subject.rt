@@ -9,12 +9,13 @@ ghost use Rattle.bk_manifest.specs.Subject.{subject_cmp, subject_total};
 
 use std::cmp::Ordering;
 
-/// What a record is about: a log, the deletion of a ledger, its fence, or one of its attributes.
+/// What a record is about: a log, the deletion of a ledger, its fence, one of its attributes, or the
+/// manifest of the ledgers.
 #[derive(Clone, Copy, Debug, PartialEq, Eq)]
 pub(crate) struct Subject {
-    /// Kind of the first record about it: 1 for a log, then 4, 5 and 6.
+    /// Kind of the first record about it: 1 for a log, then 4 to 7.
     pub(crate) kind: u8,
-    /// Log or ledger.
+    /// Log or ledger, or 0.
     pub(crate) id: u64,
     /// Kind of the attribute, or 0.
     pub(crate) attribute: u32,

@@ -8,9 +8,11 @@ ghost use Rattle.bk_manifest.specs.Batch.{batch_of};
 ghost use Rattle.bk_manifest.specs.File.{header_of};
 
 use crate::checksum::{batch_checksum, checksum};
-use crate::fields::{ATTRIBUTE, DELETED_LEDGER, DURABLE_LOG, FENCED_LEDGER, MADE_LOG, REMOVED_LOG};
+use crate::fields::{
+    ATTRIBUTE, DELETED_LEDGER, DURABLE_LOG, FENCED_LEDGER, MADE_LOG, MARKED_LEDGERS, REMOVED_LOG,
+};
 use crate::reading::{MAGIC, VERSION};
-use crate::{Record, WriteError};
+use crate::{Mark, Record, WriteError};
 use std::alloc::{AllocError, Global};
 
 /// Greatest size of a body, and of the bytes of an attribute: a size has four bytes.
@@ -51,6 +53,20 @@ fn put_length(out: &mut Vec<u8>, kind: u8, log: u32, length: u64) -> Result<(), 
     Ok(())
 }
 
+/// Appends a mark.
+fn put_mark(out: &mut Vec<u8>, mark: Mark) -> Result<(), WriteError>
+    ensures ok { OnOk result (out.new.items ≡ out.old.items ++ 7 ∷ (to_be_bytes w64 mark.generation ++ to_be_bytes w64 mark.length)) }
+    ensures fits_generation { mark.generation < 2 ^ 64 }
+    ensures fits_length { mark.length < 2 ^ 64 }
+    ensures only { IsErrOf result WriteError.TooLong → ⊥ }
+{
+    let Mark { generation, length } = mark;
+    out.push(MARKED_LEDGERS)?;
+    out.extend_from_slice(&generation.to_be_bytes())?;
+    out.extend_from_slice(&length.to_be_bytes())?;
+    Ok(())
+}
+
 /// Appends an attribute.
 #[tactic(auto, unfolding(crate::specs::Fact::fact_bytes))]
 fn put_attribute(out: &mut Vec<u8>, ledger: u64, kind: u32, bytes: &[u8]) -> Result<(), WriteError>
@@ -87,6 +103,7 @@ fn put_record(out: &mut Vec<u8>, one: &Record) -> Result<(), WriteError>
             kind,
             bytes,
         } => put_attribute(out, *ledger, *kind, bytes),
+        Record::MarkedLedgers(mark) => put_mark(out, *mark),
     }
 }
 

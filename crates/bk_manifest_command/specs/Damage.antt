@@ -16,6 +16,8 @@ damage_at faults.BadGeneration = 0
 damage_at (faults.Damaged at) = at
 damage_at (faults.UnknownKind batch kind) = batch
 damage_at (faults.CutRecord at) = at
+damage_at (faults.Gone mark) = 0
+damage_at (faults.Behind mark found) = found.length
 
 abbrev pub name_of : Which → List ℕ
 name_of which.Ledgers = codes "ledgers.manifest"

@@ -6,6 +6,8 @@ use Rattle.bk_manifest.specs.declared.fault.ReadError.{ReadError}
 use Rattle.bk_manifest.specs.declared.fault.ReadError.TheVariants as reads
 use Rattle.bk_manifest.specs.declared.fault.WriteError.{WriteError}
 use Rattle.bk_manifest.specs.declared.fault.WriteError.TheVariants as writes
+use Rattle.bk_manifest.specs.declared.fault.ManifestError.{ManifestError}
+use Rattle.bk_manifest.specs.declared.fault.ManifestError.TheVariants as errors
 use Rattle.bk_manifest_disk.specs.declared.directory.ReadFault.{ReadFault}
 use Rattle.bk_manifest_disk.specs.declared.directory.ReadFault.TheVariants as files
 use Rattle.bk_messages.specs.Kinds.{disk_word, folder_word, read_word, reason_word}
@@ -29,6 +31,12 @@ of_write writes.TooLong = TooLong
 abbrev pub of_read : ReadError → ManifestFault
 of_read reads.Memory = Memory
 of_read (reads.Fault fault) = Front fault
+
+abbrev pub of_manifest : ManifestError → ManifestFault
+of_manifest errors.Memory = Memory
+of_manifest errors.Disk = Disk disk.Disk
+of_manifest errors.TooLong = TooLong
+of_manifest (errors.Fault fault) = Front fault
 
 abbrev pub of_row : RowFault → ManifestFault
 of_row (rows.Output error) = Output error

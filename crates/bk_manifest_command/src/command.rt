@@ -9,7 +9,7 @@ use crate::take_logs::take_logs;
 use bk_cli::FolderCall;
 use bk_cli::words::{CHECK, REBUILD};
 use bk_inspect::{Form, are_ends_whole};
-use bk_ledgers::{Read, read_file};
+use bk_ledgers::{Read, read_file, read_marked};
 use bk_messages::write_row;
 use std::alloc::Global;
 use std::io::Write;
@@ -89,7 +89,11 @@ fn run_on<W: Write>(
             Which::Logs => take_logs(rt, call.form, call.path, writer),
         };
     }
-    let found = match read_file(rt, call.path, which.name()) {
+    let read = match which {
+        Which::Ledgers => read_marked(rt, call.path),
+        Which::Logs => read_file(rt, call.path, which.name()),
+    };
+    let found = match read {
         Ok(Some(found)) => found,
         Ok(None) => return Ok(false),
         Err(fault) => return Err(ManifestFault::Read { which, fault }),

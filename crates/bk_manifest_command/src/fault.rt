@@ -2,13 +2,13 @@
 
 ghost use Rattle.std.specs.Prelude.{◌≡◌};
 ghost use Rattle.bk_manifest_command.specs.Damage.{name_of, rebuild_of};
-ghost use Rattle.bk_manifest_command.specs.Faults.{of_disk, of_read, of_row, of_write, way_after, word_of};
+ghost use Rattle.bk_manifest_command.specs.Faults.{of_disk, of_manifest, of_read, of_row, of_write, way_after, word_of};
 ghost use Rattle.bk_manifest_command.specs.declared.fault.ManifestFault.TheVariants as faults;
 
 use bk_disk::{DiskFault, FileFault, FolderFault};
 use bk_inspect::Form;
 use bk_ledgers::{LEDGERS, ReadFault};
-use bk_manifest::{Fault, ReadError, WriteError};
+use bk_manifest::{Fault, ManifestError, ReadError, WriteError};
 use bk_manifest_disk::LOGS;
 use bk_messages::{RowFault, WayOn, disk_kind, folder_kind, read_kind, reason_kind, write_object};
 use serde::Serialize;
@@ -125,6 +125,19 @@ impl From<ReadError> for ManifestFault {
         match error {
             ReadError::Memory => ManifestFault::Memory,
             ReadError::Fault(fault) => ManifestFault::Front(fault),
+        }
+    }
+}
+
+impl From<ManifestError> for ManifestFault {
+    ghost from_gives = { λ error e. e ≡ of_manifest error };
+
+    fn from(error: ManifestError) -> ManifestFault {
+        match error {
+            ManifestError::Memory => ManifestFault::Memory,
+            ManifestError::Disk => ManifestFault::Disk(DiskFault::Disk),
+            ManifestError::TooLong => ManifestFault::TooLong,
+            ManifestError::Fault(fault) => ManifestFault::Front(fault),
         }
     }
 }

@@ -10,13 +10,17 @@ use crate::fault::ManifestFault;
 use crate::rows::{RebuiltRow, WholeRow};
 use bk_disk::{DirDisk, DiskFault, FaultWatch, FolderFile};
 use bk_inspect::Form;
-use bk_manifest::{Fault, HEADER, ReadError, State, read_manifest, rewritten};
+use bk_ledgers::check_reach;
+use bk_manifest::{Fault, HEADER, Mark, ReadError, State, read_manifest, rewritten};
+use bk_manifest_disk::marked_ledgers;
 use bk_messages::write_row;
 use std::alloc::Global;
 use std::io::Write;
 
-/// Makes the manifest of this name anew, if it is damaged, of the records before the damage: first
-/// copies it to NAME.damaged, durably, then replaces it. Returns whether there is a manifest.
+/// Makes the manifest of the ledgers anew, if it is damaged, of the records before the damage, or of all
+/// that it has if records are missing that the manifest of the logs has marked: first copies it to
+/// NAME.damaged, durably, then replaces it by one of a later generation. Returns whether there is a
+/// manifest.
 ///
 /// # Errors
 ///
@@ -58,26 +62,54 @@ pub(crate) enum Done {
     },
 }
 
-/// Makes a damaged manifest anew.
+/// Makes a manifest anew that is damaged, or lacks records.
 fn replace_damaged(alloc: Global, disk: &mut DirDisk, name: &str) -> Result<Done, ManifestFault> {
+    let mark = marked_ledgers(alloc, disk)?;
     let mut file = disk.file(alloc, name)?;
     let bytes = file.read(alloc)?;
-    if bytes.is_empty() {
-        return Ok(Done::Nothing);
-    }
-    let front = match read_manifest(alloc, &bytes) {
-        Ok(_) => return Ok(Done::Whole),
-        Err(ReadError::Memory) => return Err(ManifestFault::Memory),
-        Err(ReadError::Fault(fault)) => front_of(fault, bytes.len()),
+    let front = match fault_in(alloc, mark, &bytes)? {
+        Some(fault) => front_of(fault, bytes.len()),
+        None if bytes.is_empty() => return Ok(Done::Nothing),
+        None => return Ok(Done::Whole),
     };
-    let kept = format!(in alloc; "{name}.damaged")?;
-    keep(alloc, disk, &kept, &bytes)?;
-    let records = replace(alloc, &mut file, &bytes[..front])?;
+    let kept = kept_name(alloc, disk, name, &bytes)?;
+    let records = replace(alloc, &mut file, mark, &bytes[..front])?;
     Ok(Done::Rebuilt {
         records,
         unread: (bytes.len() - front) as u64,
         kept,
     })
+}
+
+/// Returns what is wrong with the bytes of a manifest that was marked, if anything is.
+fn fault_in(
+    alloc: Global,
+    mark: Option<Mark>,
+    bytes: &[u8],
+) -> Result<Option<Fault>, ManifestFault> {
+    if bytes.is_empty() {
+        return Ok(mark.map(|mark| Fault::Gone(mark)));
+    }
+    match read_manifest(alloc, bytes) {
+        Ok(contents) => Ok(check_reach(mark, Some(contents.mark())).err()),
+        Err(ReadError::Memory) => Err(ManifestFault::Memory),
+        Err(ReadError::Fault(fault)) => Ok(Some(fault)),
+    }
+}
+
+/// Copies the bytes of a manifest to NAME.damaged. Returns that name, `nothing` if there are none.
+fn kept_name(
+    alloc: Global,
+    disk: &mut DirDisk,
+    name: &str,
+    bytes: &[u8],
+) -> Result<String, ManifestFault> {
+    if bytes.is_empty() {
+        return Ok(String::from_str(alloc, "nothing")?);
+    }
+    let kept = format!(in alloc; "{name}.damaged")?;
+    keep(alloc, disk, &kept, bytes)?;
+    Ok(kept)
 }
 
 /// Returns how many bytes are before the damage: 0 if the header is damaged.
@@ -86,7 +118,12 @@ pub(crate) fn front_of(fault: Fault, length: usize) -> usize
     ensures front { result ≡ min (damage_at fault) length }
 {
     let at = match fault {
-        Fault::Short(_) | Fault::BadMagic | Fault::Version(_) | Fault::BadGeneration => 0,
+        Fault::Short(_)
+        | Fault::BadMagic
+        | Fault::Version(_)
+        | Fault::BadGeneration
+        | Fault::Gone(_) => 0,
+        Fault::Behind { found, .. } => found.length,
         Fault::Damaged(at) | Fault::CutRecord(at) => at,
         Fault::UnknownKind { batch, kind: _ } => batch,
     };
@@ -108,15 +145,22 @@ pub(crate) fn keep(
     Ok(copy.replace(bytes)?)
 }
 
-/// Replaces a manifest by one of the records of these bytes, a whole front of it. Returns their
-/// number.
-fn replace(alloc: Global, file: &mut FolderFile, front: &[u8]) -> Result<u64, ManifestFault> {
-    let (generation, state) = if front.len() < HEADER {
+/// Replaces a manifest by one of the records of these bytes, a whole front of it, of a later generation
+/// than theirs and that of its mark. Returns the number of the records.
+fn replace(
+    alloc: Global,
+    file: &mut FolderFile,
+    mark: Option<Mark>,
+    front: &[u8],
+) -> Result<u64, ManifestFault> {
+    let marked = mark.map_or(0, |mark| mark.generation);
+    let (found, state) = if front.len() < HEADER {
         (0, State::new(alloc))
     } else {
         let contents = read_manifest(alloc, front)?;
         (contents.generation, State::of(alloc, contents.records)?)
     };
+    let generation = found.max(marked);
     let whole = rewritten(alloc, generation.wrapping_add(1), &state)?;
     file.replace(&whole)?;
     Ok(state.live() as u64)

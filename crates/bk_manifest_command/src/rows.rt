@@ -2,7 +2,7 @@
 
 ghost use Rattle.std.specs.Prelude.{◌≡◌, ◌++◌, codes, Some, None};
 ghost use Rattle.std.specs.Fmt.{decimal};
-ghost use Rattle.bk_manifest_command.specs.Rows.{attribute_kind, record_ledger, record_length, record_log, rebuilt_text, record_word};
+ghost use Rattle.bk_manifest_command.specs.Rows.{attribute_kind, record_generation, record_ledger, record_length, record_log, rebuilt_text, record_word};
 
 use bk_manifest::Record;
 use serde::Serialize;
@@ -40,12 +40,15 @@ pub(crate) struct RecordRow {
     log: Option<u32>,
     #[serde(skip_serializing_if = "Option::is_none")]
     ledger: Option<u64>,
-    /// Durable bytes of a log, or the bytes of an attribute.
+    /// Durable bytes of a log or of the manifest of the ledgers, or the bytes of an attribute.
     #[serde(skip_serializing_if = "Option::is_none")]
     length: Option<u64>,
     /// Kind of an attribute.
     #[serde(skip_serializing_if = "Option::is_none")]
     kind: Option<u32>,
+    /// Generation of the manifest of the ledgers.
+    #[serde(skip_serializing_if = "Option::is_none")]
+    generation: Option<u64>,
 }
 
 impl RecordRow {
@@ -56,6 +59,7 @@ impl RecordRow {
         ensures ledger { result.ledger ≡ record_ledger one.now }
         ensures length { result.length ≡ record_length one.now }
         ensures kind { result.kind ≡ attribute_kind one.now }
+        ensures generation { result.generation ≡ record_generation one.now }
     {
         match one {
             Record::MadeLog(log) => RecordRow::of_log("made", *log, None),
@@ -72,6 +76,14 @@ impl RecordRow {
                 length: Some(bytes.len() as u64),
                 ..RecordRow::of_ledger("attribute", *ledger)
             },
+            Record::MarkedLedgers(mark) => RecordRow {
+                record: "marked",
+                log: None,
+                ledger: None,
+                length: Some(mark.length),
+                kind: None,
+                generation: Some(mark.generation),
+            },
         }
     }
 
@@ -82,6 +94,7 @@ impl RecordRow {
         ensures ledger { result.ledger ≡ None }
         ensures length { result.length ≡ length }
         ensures kind { result.kind ≡ None }
+        ensures generation { result.generation ≡ None }
     {
         RecordRow {
             record: word,
@@ -89,6 +102,7 @@ impl RecordRow {
             ledger: None,
             length,
             kind: None,
+            generation: None,
         }
     }
 
@@ -99,6 +113,7 @@ impl RecordRow {
         ensures ledger { result.ledger ≡ Some ledger }
         ensures length { result.length ≡ None }
         ensures kind { result.kind ≡ None }
+        ensures generation { result.generation ≡ None }
     {
         RecordRow {
             record: word,
@@ -106,6 +121,7 @@ impl RecordRow {
             ledger: Some(ledger),
             length: None,
             kind: None,
+            generation: None,
         }
     }
 }
@@ -121,6 +137,9 @@ impl Display for RecordRow {
         }
         if let Some(kind) = self.kind {
             write!(f, " kind {kind}")?;
+        }
+        if let Some(generation) = self.generation {
+            write!(f, " generation {generation}")?;
         }
         match self.length {
             Some(length) => write!(f, " length {length}"),

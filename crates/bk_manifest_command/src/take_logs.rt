@@ -89,7 +89,7 @@ fn replace_by_logs<W: Write>(
     }
     let kept = format!(in alloc; "{LOGS}.damaged")?;
     keep(alloc, disk, &kept, &old.bytes)?;
-    let records = write_anew(alloc, &mut file, old.front.generation, &lengths)?;
+    let records = write_anew(alloc, &mut file, &old.front, &lengths)?;
     show_differing(alloc, form, &old.front.state, &lengths, writer)?;
     Ok(Done::Rebuilt {
         records,
@@ -98,16 +98,19 @@ fn replace_by_logs<W: Write>(
     })
 }
 
-/// Writes a manifest of a later generation, by which all bytes of logs of these lengths are durable.
-/// Returns the number of its records.
+/// Writes a manifest of a later generation, by which all bytes of logs of these lengths are durable, with
+/// the mark of the old one. Returns the number of its records.
 fn write_anew(
     alloc: Global,
     file: &mut FolderFile,
-    generation: u64,
+    old: &Front,
     lengths: &BTreeMap<u32, u64>,
 ) -> Result<u64, ManifestFault> {
-    let state = state_of(alloc, lengths)?;
-    let whole = rewritten(alloc, generation.wrapping_add(1), &state)?;
+    let mut state = state_of(alloc, lengths)?;
+    if let Some(mark) = old.state.marked_ledgers() {
+        state.apply(Record::MarkedLedgers(mark))?;
+    }
+    let whole = rewritten(alloc, old.generation.wrapping_add(1), &state)?;
     file.replace(&whole)?;
     Ok(state.live() as u64)
 }

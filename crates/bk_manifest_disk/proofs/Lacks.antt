@@ -4,7 +4,7 @@ use Rattle.std.specs.Ordering.{nat_cmp}
 use Rattle.std.specs.BTreeMap.{get}
 use Rattle.std.specs.List.{AllByRecursion}
 use Rattle.bk_manifest.specs.declared.state.State.{State}
-use Rattle.bk_manifest.specs.Fact.{Fact, made_log, durable_log, removed_log, deleted_ledger, fenced_ledger, attribute}
+use Rattle.bk_manifest.specs.Fact.{Fact, made_log, durable_log, removed_log, deleted_ledger, fenced_ledger, attribute, marked_ledgers}
 use Rattle.bk_manifest.specs.State.{the_log, last_about, log_state, length_of, IsStateOf, SameMeaning}
 use Rattle.bk_manifest_disk.specs.declared.lack.Lack.{Lack}
 use Rattle.bk_manifest_disk.specs.declared.lack.Lack.TheVariants as lack
@@ -28,6 +28,7 @@ module _ (xs facts : List Fact) (state : State) (lengths : Lengths) (all : AllBy
   by_last (Some (deleted_ledger l)) last now = absurd cc
   by_last (Some (fenced_ledger l)) last now = absurd cc
   by_last (Some (attribute l k bytes)) last now = absurd cc
+  by_last (Some (marked_ledgers g n)) last now = absurd cc
 
   kept_here : (length : ℕ) × (get nat_cmp lengths log ≡ Some length) × (durable ≤ length)
   kept_here = by_last (last_about (the_log log) xs) refl (ap (λ o. length_of (log_state o)) (sym (same (the_log log))) ∙ promise)

@@ -16,10 +16,11 @@ use Rattle.bk_manifest.specs.declared.state.LogState.{LogState}
 use Rattle.bk_manifest.specs.declared.state.LogState.TheVariants.{Made, Durable, Removed}
 use Rattle.bk_manifest.specs.declared.subject.Subject.{Subject}
 use Rattle.bk_manifest.specs.Subject.{subject_cmp}
-use Rattle.bk_manifest.specs.Fact.{Fact, made_log, durable_log, removed_log}
+use Rattle.bk_manifest.specs.declared.mark.Mark.{Mark}
+use Rattle.bk_manifest.specs.Fact.{Fact, made_log, durable_log, removed_log, marked_ledgers}
 use Rattle.bk_manifest.specs.State.{the_log, subject_of, last_after, last_about, log_state}
 use Rattle.bk_manifest_disk.specs.Table.{recorded}
-use Rattle.bk_manifest_disk.specs.Recording.{promised, if_there, promise, Fits, Rises, AreRecorded}
+use Rattle.bk_manifest_disk.specs.Recording.{promised, if_there, promise, Fits, Rises, AreRecorded, NotesMark}
 use Rattle.bk_manifest_disk.proofs.Records.{log_tied}
 use Rattle.bk_manifest_disk.proofs.Grown.{Grown, Alike}
 
@@ -47,6 +48,10 @@ push_else xs f l log about apart =
       other (inl same) = absurd (apart (sym same))
       other (inr it) = it.0
 
+-- a mark is about no log
+push_mark : (xs : List Fact) (g n log : ℕ) → recorded (xs ++ marked_ledgers g n ∷ []) log ≡ recorded xs log
+push_mark xs g n log = recorded_push xs (marked_ledgers g n) log
+
 take_push : (k : ℕ) (xs : List Fact) (f : Fact) → (take k (xs ++ f ∷ []) ≡ take k xs) ⊎ (take k (xs ++ f ∷ []) ≡ xs ++ f ∷ [])
 take_push k xs f = elim (dec_le k (length xs)) [
   | yes within ↦ inl (take-append-le k xs (f ∷ []) within)
@@ -61,6 +66,15 @@ module _ (P : ℕ → Option LogState → Type 0) (R N : List Fact) (was : (k lo
   pub holds_settled : (k log : ℕ) → P log (recorded ((R ++ N) ++ take k []) log)
   holds_settled k log =
       subst (λ xs. P log (recorded xs log)) (sym (ap (λ ys. (R ++ N) ++ ys) (take_all k [] (omega arith)) ∙ append-nil (R ++ N))) (all_noted log)
+
+  pub holds_marked : (g n k log : ℕ) → P log (recorded (R ++ take k (N ++ marked_ledgers g n ∷ [])) log)
+  holds_marked g n k log = elim (take_push k N (marked_ledgers g n)) [
+    | inl same ↦ subst (λ xs. P log (recorded (R ++ xs) log)) (sym same) (was k log)
+    | inr all ↦
+        subst (λ xs. P log (recorded (R ++ xs) log)) (sym all)
+        (subst (λ xs. P log (recorded xs log)) (append_assoc R N (marked_ledgers g n ∷ []))
+        (subst (P log) (sym (push_mark (R ++ N) g n log)) (all_noted log)))
+  ]
 
   module _ (f : Fact) (l : ℕ) (about : subject_of f ≡ the_log l) (here : P l (log_state (Some f))) where
     pushed : (log : ℕ) → P log (recorded (R ++ (N ++ f ∷ [])) log)
@@ -111,6 +125,21 @@ module _ (files kept gone : Files) (R N : List Fact) (was : AreRecorded files ke
     rises = holds_more (λ l s. Rises (promise files R l) (if_there (map.get files l) (promised s))) R N was.rises f log holds.about holds.up;
     back = holds_more (λ l s. (file : List ℕ) → map.get gone l ≡ Some file → IsSome s) R N was.back f log holds.about (λ file is. holds.some);
   }
+
+  marked : (g n : ℕ) → AreRecorded files kept gone R (N ++ marked_ledgers g n ∷ [])
+  marked g n = record {
+    each = holds_marked (λ l s. Fits kept l s (map.get files l)) R N was.each g n;
+    rises = holds_marked (λ l s. Rises (promise files R l) (if_there (map.get files l) (promised s))) R N was.rises g n;
+    back = holds_marked (λ l s. (file : List ℕ) → map.get gone l ≡ Some file → IsSome s) R N was.back g n;
+  }
+
+  pub noted_mark : (mark : Option Mark) (N' : List Fact) → NotesMark mark N N' → AreRecorded files kept gone R N'
+  noted_mark None N' same = subst (AreRecorded files kept gone R) (sym same) was
+  noted_mark (Some mark) N' (inl same) = subst (AreRecorded files kept gone R) (sym same) was
+  noted_mark (Some mark) N' (inr more) = subst (AreRecorded files kept gone R) (sym more) (marked mark.generation mark.length)
+
+  pub same_recorded : (R' N' : List Fact) → R' ≡ R → N' ≡ N → AreRecorded files kept gone R' N'
+  same_recorded R' N' same none = subst (λ xs. AreRecorded files kept gone xs N') (sym same) (subst (AreRecorded files kept gone R) (sym none) was)
 
   pub committed : AreRecorded files kept gone (R ++ N) []
   committed = record {

@@ -1,6 +1,6 @@
 -- A disk that records in a manifest what of each log is durable. Read `Fits` and `AreRecorded` first:
 -- the type invariant of `KeptDisk`.
-use Rattle.std.specs.Prelude.{◌≡◌, ℕ, ◌≤◌, min, Bool, List, [], ◌∷◌, ◌++◌, length, take, Option, None, Some, IsSome}
+use Rattle.std.specs.Prelude.{◌≡◌, ◌⊎◌, ℕ, ◌≤◌, min, Bool, List, [], ◌∷◌, ◌++◌, length, take, Option, None, Some, IsSome}
 use Rattle.std.proofs.Common.{refl}
 use Rattle.std.specs.Option.{option_map_or}
 use Rattle.std.specs.Coded.{Coded, code_by, coded×, coded_ℕ, coded_bool, coded_list}
@@ -9,7 +9,8 @@ use Rattle.bk_record.specs.Files.{Files}
 use Rattle.bk_disk.specs.Durable.{IsDurableUpTo}
 use Rattle.bk_manifest.specs.declared.state.LogState.{LogState}
 use Rattle.bk_manifest.specs.declared.state.LogState.TheVariants.{Made, Durable, Removed}
-use Rattle.bk_manifest.specs.Fact.{Fact, made_log, durable_log, removed_log}
+use Rattle.bk_manifest.specs.declared.mark.Mark.{Mark}
+use Rattle.bk_manifest.specs.Fact.{Fact, made_log, durable_log, removed_log, marked_ledgers}
 use Rattle.bk_manifest.specs.Keeping.{Kept, kept_code}
 use Rattle.bk_manifest_disk.specs.Table.{recorded}
 
@@ -83,6 +84,11 @@ recording_code =
     (coded× (map.code coded_ℕ (coded_list coded_ℕ)) (coded× (map.code coded_ℕ (coded_list coded_ℕ)) (coded× (map.code coded_ℕ (coded_list coded_ℕ)) (coded× coded_bool (coded× coded_ℕ kept_code)))))
     (λ d. (d.files, (d.kept, (d.gone, (d.honest, (d.failures, d.manifest))))))
     (λ p. record { files = p.0; kept = p.1.0; gone = p.1.1.0; honest = p.1.1.1.0; failures = p.1.1.1.1.0; manifest = p.1.1.1.1.1 }) (λ _. refl)
+
+-- at most a mark is noted more
+abbrev pub NotesMark : Option Mark → List Fact → List Fact → Type 0
+NotesMark None noted noted' = noted' ≡ noted
+NotesMark (Some mark) noted noted' = (noted' ≡ noted) ⊎ (noted' ≡ noted ++ marked_ledgers mark.generation mark.length ∷ [])
 
 -- the record of a log of which at most so many bytes are durable, by its last record
 abbrev pub shorter : Option LogState → ℕ → ℕ → Fact

@@ -6,7 +6,7 @@ use Rattle.std.specs.BTreeMap.{BTreeMap, get}
 use Rattle.bk_manifest.specs.declared.state.LogState.{LogState}
 use Rattle.bk_manifest.specs.declared.state.LogState.TheVariants.{Made, Durable, Removed}
 use Rattle.bk_manifest.specs.declared.state.State.{State}
-use Rattle.bk_manifest.specs.Fact.{Fact, made_log, durable_log, removed_log, deleted_ledger, fenced_ledger, attribute}
+use Rattle.bk_manifest.specs.Fact.{Fact, made_log, durable_log, removed_log, deleted_ledger, fenced_ledger, attribute, marked_ledgers}
 use Rattle.bk_manifest.specs.State.{the_log, last_about, log_state, length_of, said}
 use Rattle.bk_manifest_disk.specs.declared.table.Finding.{Finding}
 use Rattle.bk_manifest_disk.specs.declared.table.Finding.TheVariants.{Nothing, Whole, Longer, Shorter, Missing, Unpublished, Unknown, Back}
@@ -67,3 +67,4 @@ IsChecked state lengths (removed_log log length) = Unit {0}
 IsChecked state lengths (deleted_ledger ledger) = Unit {0}
 IsChecked state lengths (fenced_ledger ledger) = Unit {0}
 IsChecked state lengths (attribute ledger kind bytes) = Unit {0}
+IsChecked state lengths (marked_ledgers generation length) = Unit {0}

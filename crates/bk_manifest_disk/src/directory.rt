@@ -2,7 +2,9 @@
 
 use crate::KeptFile;
 use bk_disk::{DirDisk, FolderFault};
-use bk_manifest::{Fault, ManifestError, ManifestFile, ReadError, Record, State, read_manifest};
+use bk_manifest::{
+    Contents, Fault, ManifestError, ManifestFile, Mark, ReadError, Record, State, read_manifest,
+};
 use std::alloc::{AllocError, Global};
 use std::fs;
 use std::io::{self, ErrorKind};
@@ -57,8 +59,29 @@ pub fn file_of(alloc: Global, disk: &mut DirDisk, name: &str) -> Result<KeptFile
     }
 }
 
+/// Returns what the manifest of this name has; `None` if it is missing or empty.
+///
+/// # Errors
+///
+/// - `Disk`: the name is no plain file with one name, or the system refuses a call. The disk's watch
+///   has the reason.
+/// - `Fault`: the bytes are no manifest, or a damaged one.
+/// - `Memory`.
+pub fn contents_of(
+    alloc: Global,
+    disk: &mut DirDisk,
+    name: &str,
+) -> Result<Option<Contents>, ManifestError> {
+    let bytes = file_of(alloc, disk, name)?.read(alloc)?;
+    if bytes.is_empty() {
+        return Ok(None);
+    }
+    Ok(Some(read_manifest(alloc, &bytes)?))
+}
+
 /// Copies the manifest of this name durably to NAME.torn, or to NAME.torn.2 and so on if other bytes
-/// are there. Returns the name of the copy.
+/// are there, if so many bytes at its end are torn. Returns them and the name of the copy, `None` if
+/// there are none.
 ///
 /// # Errors
 ///
@@ -66,18 +89,28 @@ pub fn file_of(alloc: Global, disk: &mut DirDisk, name: &str) -> Result<KeptFile
 ///   refuses a call. The disk's watch has the reason.
 /// - `TooLong`: 9,999 copies of others stand beside it.
 /// - `Memory`.
-pub fn copy_torn(alloc: Global, disk: &mut DirDisk, name: &str) -> Result<String, ManifestError> {
+pub fn copy_torn(
+    alloc: Global,
+    disk: &mut DirDisk,
+    name: &str,
+    torn: usize,
+) -> Result<Option<Torn>, ManifestError> {
+    if torn == 0 {
+        return Ok(None);
+    }
+    let copy = copied(alloc, disk, name)?;
+    Ok(Some(Torn { bytes: torn, copy }))
+}
+
+/// Copies a manifest. Returns the name of the copy.
+fn copied(alloc: Global, disk: &mut DirDisk, name: &str) -> Result<String, ManifestError> {
     let bytes = file_of(alloc, disk, name)?.read(alloc)?;
     for number in 1..=COPIES {
         let copy = copy_name(alloc, name, number)?;
         let mut file = file_of(alloc, disk, &copy)?;
         let found = file.read(alloc)?;
-        if found.is_empty() {
+        if found.is_empty() || *found == *bytes {
             file.replace(alloc, &bytes)?;
-            return Ok(copy);
-        }
-        if *found == *bytes {
-            file.sync()?;
             return Ok(copy);
         }
     }
@@ -101,8 +134,20 @@ pub struct Read {
     pub count: usize,
     /// Those that stand, one about each subject: by kind, then log or ledger.
     pub records: Vec<Record>,
-    /// Number of bytes after its last whole batch. They are no records.
+    /// Number of bytes up to the end of its last whole batch.
+    pub length: u64,
+    /// Number of bytes after it. They are no records.
     pub torn: usize,
+}
+
+impl Read {
+    /// Returns how far the manifest reaches.
+    pub fn mark(&self) -> Mark {
+        Mark {
+            generation: self.generation,
+            length: self.length,
+        }
+    }
 }
 
 /// Returns the manifest of this name in the directory at a path; `None` if there is no such file, or
@@ -136,6 +181,7 @@ fn found_in(alloc: Global, bytes: &[u8]) -> Result<Read, ReadError> {
         generation: contents.generation,
         count,
         records: state.records(alloc)?,
+        length: contents.end as u64,
         torn: contents.torn,
     })
 }

@@ -2,7 +2,9 @@
 
 ghost use Rattle.std.specs.Prelude.{◌≡◌, IsTrue};
 
-use crate::recording::{durable_length, has_length, record, shorten};
+use crate::Reach;
+use crate::reach::mark_of;
+use crate::recording::{durable_length, has_length, make_sure, note_mark, record, shorten};
 use bk_disk::{CutDisk, DiskFault, LogDisk};
 use bk_manifest::{Manifest, ManifestFile, Record};
 use std::alloc::Global;
@@ -10,7 +12,8 @@ use std::marker::Model;
 
 /// A disk over another one, with a manifest of its logs. A log is recorded before its file is made,
 /// after each sync with its length, and before its file is removed. So after a crash an opening
-/// knows of each log how many of its bytes are durable.
+/// knows of each log how many of its bytes are durable. The record of a sync comes with a mark of the
+/// manifest of the ledgers, if the disk follows one (`follow`).
 ///
 /// A record that was not written, since the manifest's file failed, stays noted, and the next one is
 /// written with it. None is wrong then: a log that was not made has no file, the bytes of a sync are
@@ -20,6 +23,8 @@ use std::marker::Model;
 pub struct KeptDisk<D: LogDisk, F: ManifestFile> {
     inner: D,
     manifest: Manifest<F>,
+    /// How far the manifest of the ledgers is durable.
+    ledgers: Option<Reach>,
 }
 
 impl<D: LogDisk, F: ManifestFile> Model for KeptDisk<D, F> {
@@ -60,7 +65,18 @@ impl<D: LogDisk, F: ManifestFile> KeptDisk<D, F> {
           manifest = manifest;
         } }
     {
-        KeptDisk { inner, manifest }
+        KeptDisk {
+            inner,
+            manifest,
+            ledgers: None,
+        }
+    }
+
+    /// Marks from now on how far the manifest of the ledgers is durable.
+    pub fn follow(&mut self, ledgers: Reach)
+        ensures { self.new ≡ self.old }
+    {
+        self.ledgers = Some(ledgers);
     }
 
     /// Returns the inner disk, which has the same files.
@@ -163,8 +179,9 @@ impl<D: LogDisk, F: ManifestFile + Send> LogDisk for KeptDisk<D, F> {
         self.inner.sync(alloc, log)?;
         let length = self.inner.length(alloc, log)?;
         if has_length(self.manifest.state(), log, length) {
-            return Ok(());
+            return make_sure(alloc, &mut self.manifest);
         }
+        note_mark(&mut self.manifest, mark_of(&self.ledgers));
         record(
             alloc,
             &mut self.manifest,

@@ -3,22 +3,21 @@
 ghost use Rattle.std.specs.Prelude.{◌≡◌, [], false, IsErrOf};
 ghost use Rattle.bk_manifest.specs.Keeping.{FailsExactlyIf};
 
+use crate::Reach;
 use bk_disk::{DiskFault, FolderFile};
 use bk_manifest::{FileFault, ManifestFile};
 use std::alloc::Global;
 
 /// A file of a directory that is written, as the file of a manifest. It is not honest and states
 /// nothing of its bytes, since another process may change them at any time.
-///
-/// Bytes that were read are written to a new file in place of this one before the first write or sync:
-/// if a sync failed in an earlier process, the system may report success for bytes that it has dropped.
 #[derive(Drop)]
 pub struct KeptFile {
     file: FolderFile,
-    /// The bytes that were read, which may be those of an earlier process. `None` once this one has
-    /// written them, or if there are none.
-    found: Option<Vec<u8>>,
     failures: u64,
+    /// Number of its bytes after the last call that wrote.
+    length: u64,
+    /// Who is told how many of them are durable.
+    told: Option<Reach>,
 }
 
 impl KeptFile {
@@ -26,53 +25,35 @@ impl KeptFile {
     pub fn new(file: FolderFile) -> KeptFile {
         KeptFile {
             file,
-            found: None,
             failures: 0,
+            length: 0,
+            told: None,
         }
     }
 
-    /// Returns the bytes of the file, and keeps them until they are written again.
-    fn read_all(&mut self, alloc: Global) -> Result<Vec<u8>, DiskFault>
-        ensures { self.new.failures ≡ self.old.failures }
-    {
-        let bytes = self.file.read(alloc)?;
-        self.found = if bytes.is_empty() {
-            None
-        } else {
-            Some(bytes.to_vec(alloc).map_err(|_| DiskFault::Memory)?)
-        };
-        Ok(bytes)
-    }
-
-    /// Replaces the file by the bytes that were read, if they may be those of an earlier process.
-    /// Returns whether it did.
-    fn write_found(&mut self) -> Result<bool, DiskFault>
-        ensures { self.new.failures ≡ self.old.failures }
-    {
-        match &self.found {
-            None => return Ok(false),
-            Some(found) => self.file.replace(found)?,
-        }
-        self.found = None;
-        Ok(true)
+    /// Returns the same file, which tells how many of its bytes are durable.
+    pub fn telling(self, reach: Reach) -> KeptFile {
+        let mut file = self;
+        file.told = Some(reach);
+        file
     }
 
     /// Truncates the file at a position and writes a piece there.
     fn write_piece(&mut self, at: u64, piece: &[u8]) -> Result<(), DiskFault>
         ensures { self.new.failures ≡ self.old.failures }
     {
-        self.write_found()?;
-        self.file.write_at(at, piece)
+        self.file.write_at(at, piece)?;
+        self.length = at.saturating_add(piece.len() as u64);
+        Ok(())
     }
 
     /// Makes all bytes durable.
     fn sync_all(&mut self) -> Result<(), DiskFault>
         ensures { self.new.failures ≡ self.old.failures }
     {
-        if self.write_found()? {
-            return Ok(());
-        }
-        self.file.sync()
+        self.file.sync()?;
+        self.tell();
+        Ok(())
     }
 
     /// Replaces the file by one of these bytes.
@@ -80,8 +61,16 @@ impl KeptFile {
         ensures { self.new.failures ≡ self.old.failures }
     {
         self.file.replace(whole)?;
-        self.found = None;
+        self.length = whole.len() as u64;
+        self.tell();
         Ok(())
+    }
+
+    /// Tells that all its bytes are durable.
+    fn tell(&self) {
+        if let Some(told) = &self.told {
+            told.tell(self.length);
+        }
     }
 }
 
@@ -116,7 +105,7 @@ impl ManifestFile for KeptFile {
     }
 
     fn read(&mut self, alloc: Global) -> Result<Vec<u8>, FileFault> {
-        let answer = self.read_all(alloc);
+        let answer = self.file.read(alloc);
         counted(&mut self.failures, answer)
     }
 

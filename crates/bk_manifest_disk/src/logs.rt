@@ -1,11 +1,11 @@
 //! The logs of a directory, by the manifest beside them.
 
 use crate::{
-    Fault, KeptDisk, KeptFile, LimitedDisk, ReadFault, Report, Torn, copy_torn, file_of, open,
-    read_file,
+    Fault, KeptDisk, KeptFile, LimitedDisk, ReadFault, Report, Torn, contents_of, copy_torn,
+    file_of, open, read_file,
 };
 use bk_disk::DirDisk;
-use bk_manifest::{ManifestError, ManifestFile, ReadError, State, read_manifest};
+use bk_manifest::{ManifestError, Mark, State};
 use std::alloc::Global;
 
 /// Name of the file beside the logs.
@@ -29,12 +29,9 @@ pub struct FolderLogs {
 /// Those of `open` and of `copy_torn`. No log is changed. The disk's watch has the reason of `Disk`.
 pub fn open_logs(alloc: Global, disk: DirDisk) -> Result<FolderLogs, Fault> {
     let mut disk = disk;
-    let bytes = torn_bytes(alloc, &mut disk)?;
-    let torn = if bytes > 0 {
-        let copy = copy_torn(alloc, &mut disk, LOGS)?;
-        Some(Torn { bytes, copy })
-    } else {
-        None
+    let torn = match contents_of(alloc, &mut disk, LOGS)? {
+        Some(found) => copy_torn(alloc, &mut disk, LOGS, found.torn)?,
+        None => None,
     };
     let file = file_of(alloc, &mut disk, LOGS)?;
     let opened = open(alloc, disk, file)?;
@@ -45,16 +42,13 @@ pub fn open_logs(alloc: Global, disk: DirDisk) -> Result<FolderLogs, Fault> {
     })
 }
 
-/// Returns the number of torn bytes at the end of the manifest of a directory.
-fn torn_bytes(alloc: Global, disk: &mut DirDisk) -> Result<usize, ManifestError> {
-    let bytes = file_of(alloc, disk, LOGS)?.read(alloc)?;
-    if bytes.is_empty() {
-        return Ok(0);
-    }
-    match read_manifest(alloc, &bytes) {
-        Ok(contents) => Ok(contents.torn),
-        Err(ReadError::Memory) => Err(ManifestError::Memory),
-        Err(ReadError::Fault(fault)) => Err(ManifestError::Fault(fault)),
+/// Returns how far the manifest of the ledgers was durable when that of the logs marked it last; `None`
+/// if it did not, or is damaged, which `open_logs` tells. Errors as `contents_of`, except `Fault`.
+pub fn marked_ledgers(alloc: Global, disk: &mut DirDisk) -> Result<Option<Mark>, ManifestError> {
+    match contents_of(alloc, disk, LOGS) {
+        Ok(Some(found)) => Ok(State::of(alloc, found.records)?.marked_ledgers()),
+        Ok(None) | Err(ManifestError::Fault(_)) => Ok(None),
+        Err(error) => Err(error),
     }
 }
 

@@ -24,7 +24,7 @@ pub struct Opened<D: CutDisk, F: ManifestFile> {
     pub disk: KeptDisk<LimitedDisk<D>, F>,
     /// What is hidden of the logs, in their order.
     pub reports: Vec<Report>,
-    /// Number of torn bytes at the end of the manifest, which the next record writes over.
+    /// Number of torn bytes that were at the end of the manifest.
     pub torn: usize,
 }
 
@@ -89,7 +89,8 @@ fn record_lengths<F: ManifestFile>(
     manifest.commit(alloc)
 }
 
-/// Rewrites a manifest of which this many records were read, if more than half of them are dead.
+/// Rewrites a manifest of which this many records were read, if more than half of them are dead. One
+/// that could not be written anew stays as it is.
 fn shortened<F: ManifestFile>(
     alloc: Global,
     manifest: Manifest<F>,
@@ -99,7 +100,7 @@ fn shortened<F: ManifestFile>(
     ensures same { IsTrue manifest.honest → IfOk result (λ m. SameMeaning (durable manifest) (durable m)) }
     ensures pending { IfOk result (λ m. m.pending ≡ manifest.pending) }
 {
-    if !manifest.state().needs_rewrite(records) {
+    if !manifest.is_written() || !manifest.state().needs_rewrite(records) {
         return Ok(manifest);
     }
     match manifest.rewrite(alloc, &[]) {
@@ -112,7 +113,8 @@ fn shortened<F: ManifestFile>(
 /// file of a log changes: the bytes that the manifest does not believe are hidden, and reported.
 ///
 /// A log that the manifest does not know is believed. It is recorded after a sync, and so is what is
-/// shown of a removed log that is back.
+/// shown of a removed log that is back. If there is none of these, the logs are opened also if the
+/// manifest cannot be written anew: then each call that records fails until it can (`is_written`).
 ///
 /// # Errors
 ///

@@ -21,11 +21,11 @@ const MANIFEST: [u8; 152] = [
     0x03, 0x6b, 0x65, 0x79, 0xf9, 0x4f, 0x5f, 0x03,
 ];
 
-/// A batch that fits, of one record of kind 7.
+/// A batch that fits, of one record of kind 8.
 const UNKNOWN_KIND: [u8; 41] = [
     0x4d, 0x41, 0x4e, 0x49, 0x46, 0x45, 0x53, 0x54, 0x00, 0x00, 0x00, 0x01, 0x00, 0x00, 0x00, 0x00,
     0x00, 0x00, 0x00, 0x07, 0xff, 0xaf, 0xd0, 0x8c, 0x00, 0x00, 0x00, 0x05, 0x51, 0x4f, 0x81, 0x5b,
-    0x07, 0x00, 0x00, 0x00, 0x01, 0xfd, 0x19, 0x5d, 0x6a,
+    0x08, 0x00, 0x00, 0x00, 0x01, 0x90, 0x08, 0x58, 0xbf,
 ];
 
 /// A batch that fits, whose record of kind 2 lacks its length.
@@ -153,12 +153,12 @@ fn after_flip(at: usize, version: u32) -> Outcome {
         12..24 => Err(ReadError::Fault(Fault::BadGeneration)),
         24..46 => Err(ReadError::Fault(Fault::Damaged(24))),
         46..89 => Err(ReadError::Fault(Fault::Damaged(46))),
-        _ => Ok((5, 89, 63)),
+        _ => Err(ReadError::Fault(Fault::Damaged(89))),
     }
 }
 
 #[test]
-fn a_flipped_bit_is_a_fault_or_a_torn_end(rt: HostRuntime) -> Result<(), Fail> {
+fn a_flipped_bit_is_a_fault(rt: HostRuntime) -> Result<(), Fail> {
     let wanted = records(rt.alloc())?;
     for at in 0..152 {
         for bit in [1, 2, 4, 8, 16, 32, 64, 128] {
@@ -174,14 +174,15 @@ fn a_flipped_bit_is_a_fault_or_a_torn_end(rt: HostRuntime) -> Result<(), Fail> {
 
 #[test]
 fn odd_manifests(rt: HostRuntime) {
-    let kind = ReadError::Fault(Fault::UnknownKind { batch: 24, kind: 7 });
+    let kind = ReadError::Fault(Fault::UnknownKind { batch: 24, kind: 8 });
     let cut = ReadError::Fault(Fault::CutRecord(24));
+    let damaged = ReadError::Fault(Fault::Damaged(24));
     for (name, file, wanted) in [
         ("unknown kind", UNKNOWN_KIND.as_slice(), Err(kind)),
         ("cut record", CUT_RECORD.as_slice(), Err(cut)),
         ("cut attribute", CUT_ATTRIBUTE.as_slice(), Err(cut)),
-        ("generation", OTHER_GENERATION.as_slice(), Ok((0, 24, 21))),
-        ("place", OTHER_PLACE.as_slice(), Ok((0, 24, 21))),
+        ("generation", OTHER_GENERATION.as_slice(), Err(damaged)),
+        ("place", OTHER_PLACE.as_slice(), Err(damaged)),
         ("size", HUGE_SIZE.as_slice(), Ok((0, 24, 16))),
     ] {
         assert_eq!(rt; outcome(&rt, rt.alloc(), &[], file), wanted, "{name}");
@@ -201,9 +202,58 @@ fn zeros_at_the_end_are_torn_and_a_hole_is_a_fault(rt: HostRuntime) -> Result<()
     Ok(())
 }
 
+/// A manifest whose last batch of 2,000 bytes begins at byte 24. A sector that was never written, or a
+/// cut, leaves it torn; a flipped bit, or a hole of another place than a sector, does not.
+#[test]
+fn a_sector_that_was_never_written_is_torn(rt: HostRuntime) -> Result<(), Fail> {
+    let alloc = rt.alloc();
+    let bytes = vec![in alloc; 0x55u8; 2000]?;
+    let record = Record::Attribute {
+        ledger: 1,
+        kind: 1,
+        bytes,
+    };
+    let mut records = Vec::new(alloc);
+    records.push(record)?;
+    let mut file = new_header(alloc, 7)?;
+    file.extend_from_slice(&write_batch(alloc, 7, 24, &records)?)?;
+    let torn = Ok((0, 24, file.len() - 24));
+    let damaged = Err(ReadError::Fault(Fault::Damaged(24)));
+    assert_eq!(rt;
+        outcome(&rt, alloc, &records, &file),
+        Ok((1, file.len(), 0))
+    );
+    for (from, to, wanted) in [
+        (24, 512, torn),
+        (512, 1024, torn),
+        (1536, file.len(), torn),
+        (24, 32, damaged),
+        (600, 1100, damaged),
+        (513, 1024, damaged),
+        (512, 1023, damaged),
+    ] {
+        let mut left = file.clone()?;
+        left[from..to].fill(0);
+        assert_eq!(rt;
+            outcome(&rt, alloc, &records, &left),
+            wanted,
+            "{from} to {to}"
+        );
+    }
+    Ok(())
+}
+
 #[test]
 fn texts_of_errors(rt: HostRuntime) -> Result<(), Fail> {
     let kind = Fault::UnknownKind { batch: 24, kind: 7 };
+    let mark = Mark {
+        generation: 7,
+        length: 46,
+    };
+    let found = Mark {
+        generation: 7,
+        length: 24,
+    };
     for (fault, wanted) in [
         (Fault::Short(3), "short manifest 3"),
         (Fault::BadMagic, "bad manifest magic"),
@@ -212,6 +262,14 @@ fn texts_of_errors(rt: HostRuntime) -> Result<(), Fail> {
         (Fault::Damaged(46), "damaged manifest 46"),
         (kind, "unknown record kind 7 24"),
         (Fault::CutRecord(24), "cut record 24"),
+        (
+            Fault::Gone(mark),
+            "manifest is missing, had 46 bytes of generation 7",
+        ),
+        (
+            Fault::Behind { mark, found },
+            "manifest has 24 bytes of generation 7, had 46 bytes of generation 7",
+        ),
     ] {
         let text = format!(in rt.alloc(); "{}", ReadError::Fault(fault))?;
         assert_eq!(rt; text.as_str(), wanted);

@@ -14,7 +14,7 @@ use Rattle.std.proofs.lemmas.Map.Views.{tells_apart, any-filter_same}
 use Rattle.std.specs.declared.alloc.AllocError.{AllocError}
 use Rattle.bk_ledgers.specs.declared.listed.Listed.{Listed}
 use Rattle.bk_manifest.specs.declared.subject.Subject.{Subject}
-use Rattle.bk_manifest.specs.Fact.{Fact, made_log, durable_log, removed_log, deleted_ledger, fenced_ledger, attribute}
+use Rattle.bk_manifest.specs.Fact.{Fact, made_log, durable_log, removed_log, deleted_ledger, fenced_ledger, attribute, marked_ledgers}
 use Rattle.bk_manifest.specs.State.{the_deletion, the_fence, is_about, last_after, last_about, SameMeaning}
 use Rattle.bk_ledgers.specs.Listed.{deletion, deletions, fence, fences}
 use Rattle.bk_store.specs.Transitions.{valid_ledgers}
@@ -67,6 +67,7 @@ deletion_names ledger (removed_log log length) = refl
 deletion_names ledger (deleted_ledger k) = same_id ledger k
 deletion_names ledger (fenced_ledger k) = refl
 deletion_names ledger (attribute k kind bytes) = refl
+deletion_names ledger (marked_ledgers g n) = refl
 
 fence_names : Names fence the_fence
 fence_names ledger (made_log log) = refl
@@ -75,6 +76,7 @@ fence_names ledger (removed_log log length) = refl
 fence_names ledger (deleted_ledger k) = refl
 fence_names ledger (fenced_ledger k) = same_id ledger k
 fence_names ledger (attribute k kind bytes) = refl
+fence_names ledger (marked_ledgers g n) = refl
 
 below_too : (ledger : ℕ) → ledger < 2 ^ 63 → (k : ℕ) → eq_by_cmp nat_cmp ledger k ≡ true → nat_lt k (2 ^ 63) ≡ true
 below_too ledger below k same = lt-ltb k (2 ^ 63) (subst (λ n. n < 2 ^ 63) (tells_apart nat_cmp-IsAntisymmetric ledger k same) below)

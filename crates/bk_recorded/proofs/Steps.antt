@@ -138,7 +138,12 @@ recorded_one one subject ledger m m' about honest gives =
           longer = new.recorded honest;
           there = λ _. ap (λ xs. is_some (last_about subject xs)) (new.recorded honest) ∙ now_about subject (durable m) one about;
         }
-        | inr old ↦ nothing_more subject ledger m m' old.1 (λ _. old.0 honest)
+        | inr old ↦ record {
+          honest = old.none.honest;
+          more = [];
+          longer = old.none.same honest ∙ sym (append-nil (durable m));
+          there = λ _. ap (λ xs. is_some (last_about subject xs)) (old.none.same honest) ∙ old.there honest;
+        }
       ]
       | false ↦ λ above.
           let past : 2 ^ 63 ≤ ledger = ltb-false ledger (2 ^ 63) above in
@@ -207,7 +212,7 @@ refusal_recorded steps.Stats m m' known gives honest was = absurd (let e = gives
 
 one_honest : (one : Fact) (subject : Subject) (ledger : ℕ) (m m' : Kept) (b : Bool) → RecordsOne one subject ledger m b m' → m'.honest ≡ m.honest
 one_honest one subject ledger m m' true gives = elim (nat_lt ledger (2 ^ 63)) as (λ b. nat_lt ledger (2 ^ 63) ≡ b → m'.honest ≡ m.honest) [
-  | true ↦ λ below. elim (gives.0 (ltb-true ledger (2 ^ 63) below)) [ inl new ↦ new.honest | inr old ↦ ap (λ (k : Kept). k.honest) old.1 ]
+  | true ↦ λ below. elim (gives.0 (ltb-true ledger (2 ^ 63) below)) [ inl new ↦ new.honest | inr old ↦ old.none.honest ]
   | false ↦ λ above. ap (λ (k : Kept). k.honest) (gives.1 (ltb-false ledger (2 ^ 63) above))
 ] refl
 one_honest one subject ledger m m' false gives = gives.1.honest

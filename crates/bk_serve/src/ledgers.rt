@@ -30,7 +30,7 @@ fn note_fence<F: ManifestFile>(
     ensures ok { OnOk result (IsNotedFence ledger notes.old notes.new) }
     ensures err { IfErr result (λ refusal. NoteTransition (fenced_ledger ledger) notes.old (Err refusal) notes.new) }
 {
-    if notes.state().is_fenced(ledger) {
+    if notes.is_written() && notes.state().is_fenced(ledger) {
         return Ok(());
     }
     note(alloc, notes, Record::FencedLedger(ledger))

@@ -218,7 +218,9 @@ fn open_store(
     options: Options,
 ) -> Result<Opening, OpenFault> {
     let torn = torn_files(alloc, ledgers.torn, logs.torn)?;
-    let disk = HintedDisk::new(alloc, logs.disk, hints);
+    let mut kept = logs.disk;
+    kept.follow(ledgers.reach);
+    let disk = HintedDisk::new(alloc, kept, hints);
     let found = open_hinted(alloc, disk, ledgers.manifest, options)?;
     Ok(Opening {
         host: found.host,

@@ -1,7 +1,7 @@
 -- What a page shows of the manifests of a directory, and how a fault comes on it.
 use Rattle.std.specs.Prelude.{◌≡◌, List, [], ◌∷◌, ◌++◌, Option, Some, None}
 use Rattle.std.specs.List.{filter_map}
-use Rattle.bk_manifest.specs.Fact.{Fact, made_log, durable_log, removed_log, deleted_ledger, fenced_ledger, attribute}
+use Rattle.bk_manifest.specs.Fact.{Fact, made_log, durable_log, removed_log, deleted_ledger, fenced_ledger, attribute, marked_ledgers}
 use Rattle.bk_manifest.specs.declared.record.Record.{Record}
 use Rattle.bk_manifest_disk.specs.declared.directory.Read.{Read}
 use Rattle.bk_ledgers.specs.Listed.{deletions, fences}
@@ -22,6 +22,7 @@ row_of (removed_log log length) = Some (record { log = log; promise = Removed })
 row_of (deleted_ledger ledger) = None
 row_of (fenced_ledger ledger) = None
 row_of (attribute ledger kind bytes) = None
+row_of (marked_ledgers generation length) = None
 
 -- the rows of records, in their order
 abbrev pub rows_of : List Fact → List ManifestRow

@@ -78,9 +78,10 @@ fn row_of(one: &Record) -> Option<ManifestRow>
         Record::MadeLog(log) => (*log, Promise::Made),
         Record::DurableLog { log, length } => (*log, Promise::Durable { length: *length }),
         Record::RemovedLog { log, .. } => (*log, Promise::Removed),
-        Record::DeletedLedger(_) | Record::FencedLedger(_) | Record::Attribute { .. } => {
-            return None;
-        }
+        Record::DeletedLedger(_)
+        | Record::FencedLedger(_)
+        | Record::Attribute { .. }
+        | Record::MarkedLedgers(_) => return None,
     };
     Some(ManifestRow { log, promise })
 }

@@ -1,6 +1,6 @@
 //! A manifest whose device fails once, at each call, and an opening after a crash.
 
-use super::kit::{Kept, add, file_of, has};
+use super::kit::{Kept, Said, add, file_of, has, manifest_of};
 use bk_disk::{DiskFault, LogDisk, MemDisk};
 use bk_manifest::Plan;
 use bk_manifest_disk::open;
@@ -95,4 +95,22 @@ fn each_call_of_the_manifest_fails_once(rt: HostRuntime) {
             None => assert!(rt; call < 2, "{call}"),
         }
     }
+}
+
+/// A manifest that cannot be written anew is opened, and a sync is not answered before it is.
+#[test]
+fn a_manifest_that_cannot_be_written_anew_is_opened(rt: HostRuntime) {
+    let alloc = rt.alloc();
+    let bytes = manifest_of(alloc, &[(1, Said::Durable(4))]).expect(&rt, "memory");
+    let mut left = MemDisk::new(alloc);
+    assert!(rt; add(alloc, &mut left, 1, b"abcdJUNK"));
+    // Two reads, and the replacing that fails.
+    let file = file_of(alloc, &bytes, Plan::After(2)).expect(&rt, "memory");
+    let mut disk = open(alloc, left, file).ok().expect(&rt, "opened").disk;
+    assert!(rt; !disk.manifest().is_written());
+    assert_eq!(rt; disk.count_failures(), 1);
+    assert!(rt; has(alloc, &mut disk, 1, Some(b"abcd")));
+    assert_eq!(rt; disk.sync(alloc, 1), Ok(()));
+    assert!(rt; disk.manifest().is_written());
+    assert_eq!(rt; disk.create(alloc, 2), Ok(()));
 }

@@ -2,8 +2,10 @@
 
 use super::kit::{add, has};
 use bk_disk::{DirDisk, LogDisk};
-use bk_manifest::ManifestFile;
-use bk_manifest_disk::{Cause, KeptDisk, KeptFile, LimitedDisk, Report, open};
+use bk_manifest::{Manifest, Mark, Record};
+use bk_manifest_disk::{
+    Cause, KeptDisk, KeptFile, LimitedDisk, Reach, Report, open, open_logs, read_logs,
+};
 use std::fs::{self, OpenOptions};
 use std::io::Write;
 use std::os::unix::fs::MetadataExt;
@@ -77,45 +79,68 @@ fn a_directory_shows_what_was_durable(rt: HostRuntime) -> Result<(), Fail> {
 }
 
 #[test]
-fn a_manifest_that_was_read_is_written_to_a_new_file(rt: HostRuntime) -> Result<(), Fail> {
+fn a_manifest_that_is_opened_is_written_to_a_new_file(rt: HostRuntime) -> Result<(), Fail> {
     const MANIFEST: &str = "bk_manifest_disk_again/logs.manifest";
     let folder = "bk_manifest_disk_again";
     let _ = fs::remove_dir_all(&rt, folder);
     fs::create_dir(&rt, folder)?;
     let alloc = rt.alloc();
     let mut disk = DirDisk::open_to_write(&rt, folder)?;
-    let mut file = KeptFile::new(disk.file(alloc, "logs.manifest")?);
     // A file of this process stays.
-    assert!(rt; file.replace(alloc, b"first").is_ok());
+    let file = KeptFile::new(disk.file(alloc, "logs.manifest")?);
+    let mut manifest = Manifest::create(alloc, file, 7)?;
     let made = fs::metadata(&rt, MANIFEST)?.ino();
-    assert!(rt; file.write_at(5, b" second").is_ok());
-    assert!(rt; file.sync().is_ok());
+    manifest.note(Record::FencedLedger(1))?;
+    manifest.commit(alloc)?;
     assert_eq!(rt; fs::metadata(&rt, MANIFEST)?.ino(), made);
-    // Bytes that were read are those of another one: a sync writes them again, once.
-    let mut file = KeptFile::new(disk.file(alloc, "logs.manifest")?);
-    assert!(rt;
-        file.read(alloc)
-            .is_ok_and(|bytes| bytes.as_slice() == b"first second".as_slice())
-    );
-    assert!(rt; file.sync().is_ok());
-    let again = fs::metadata(&rt, MANIFEST)?.ino();
-    assert!(rt; again != made);
-    assert!(rt; is_file(&rt, MANIFEST, b"first second"));
-    assert!(rt; file.sync().is_ok());
-    assert_eq!(rt; fs::metadata(&rt, MANIFEST)?.ino(), again);
-    // So does a write before the sync.
-    let mut file = KeptFile::new(disk.file(alloc, "logs.manifest")?);
-    assert!(rt; file.read(alloc).is_ok());
-    assert!(rt; file.write_at(5, b" third").is_ok());
-    assert!(rt; file.sync().is_ok());
-    assert!(rt; fs::metadata(&rt, MANIFEST)?.ino() != again);
-    assert!(rt; is_file(&rt, MANIFEST, b"first third"));
-    // A file that is missing stays missing.
-    let mut file = KeptFile::new(disk.file(alloc, "other.manifest")?);
-    assert!(rt; file.read(alloc).is_ok_and(|bytes| bytes.is_empty()));
-    assert!(rt; file.sync().is_ok());
-    assert!(rt; fs::metadata(&rt, "bk_manifest_disk_again/other.manifest").is_err());
+    let bytes = fs::read(&rt, MANIFEST)?;
+    assert_eq!(rt; bytes.len(), 45);
+    // One that is found is that of another process.
+    assert!(rt; grow(&rt, MANIFEST, b"torn"));
+    let file = KeptFile::new(disk.file(alloc, "logs.manifest")?);
+    let opened = Manifest::open(alloc, file)?.expect(&rt, "a manifest");
+    assert!(rt; opened.manifest.is_written() && opened.torn == 4);
+    assert!(rt; fs::metadata(&rt, MANIFEST)?.ino() != made);
+    assert!(rt; is_file(&rt, MANIFEST, &bytes));
     drop(disk);
+    fs::remove_dir_all(&rt, folder)?;
+    Ok(())
+}
+
+/// Returns the mark of the ledgers in the manifest of the logs of a directory.
+fn marked(rt: &HostRuntime) -> Option<Mark> {
+    read_logs(rt, "bk_manifest_disk_marks")
+        .ok()?
+        .marked_ledgers()
+}
+
+/// Each sync of a log marks how far the manifest of the ledgers is durable, with its own record.
+#[test]
+fn a_sync_marks_the_ledgers(rt: HostRuntime) -> Result<(), Fail> {
+    let folder = "bk_manifest_disk_marks";
+    let _ = fs::remove_dir_all(&rt, folder);
+    fs::create_dir(&rt, folder)?;
+    let alloc = rt.alloc();
+    let mut disk = DirDisk::open_to_write(&rt, folder)?;
+    let reach = Reach::new(alloc, 3)?;
+    let file = KeptFile::new(disk.file(alloc, "ledgers.manifest")?);
+    let mut ledgers = Manifest::create(alloc, file.telling(reach.share(3)?), 3)?;
+    let mut logs = open_logs(alloc, disk)?.disk;
+    assert!(rt; add(alloc, &mut logs, 1, b"abcd") && logs.sync(alloc, 1).is_ok());
+    assert_eq!(rt; marked(&rt), None);
+    logs.follow(reach);
+    for length in [24, 45] {
+        assert_eq!(rt; logs.append(alloc, 1, b"efgh"), Ok(()));
+        assert_eq!(rt; logs.sync(alloc, 1), Ok(()));
+        let mark = Mark {
+            generation: 3,
+            length,
+        };
+        assert_eq!(rt; marked(&rt), Some(mark));
+        ledgers.note(Record::FencedLedger(1))?;
+        ledgers.commit(alloc)?;
+    }
+    drop(logs);
     fs::remove_dir_all(&rt, folder)?;
     Ok(())
 }

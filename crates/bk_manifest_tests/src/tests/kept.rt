@@ -56,14 +56,16 @@ fn a_manifest_in_a_file_has_the_bytes_of_the_reference(rt: HostRuntime) -> Resul
 }
 
 #[test]
-fn a_torn_end_is_written_over_by_the_next_commit(rt: HostRuntime) -> Result<(), Fail> {
+fn a_torn_end_is_cut_off_by_an_opening(rt: HostRuntime) -> Result<(), Fail> {
     let alloc = rt.alloc();
     let mut opened = Manifest::open(alloc, file_of(alloc, &MANIFEST[..140])?)?.expect(
         &rt,
         "a manifest",
     );
     assert_eq!(rt; (opened.records, opened.torn), (5, 51));
-    assert_eq!(rt; opened.manifest.file().synced, 140);
+    assert!(rt; opened.manifest.is_written());
+    assert_eq!(rt; opened.manifest.file().synced, 89);
+    assert_eq!(rt; opened.manifest.file().bytes.as_slice(), &MANIFEST[..89]);
     opened.manifest.note(Record::RemovedLog {
         log: 1,
         length: 4096,
@@ -87,7 +89,7 @@ fn an_empty_file_is_no_manifest_and_a_damaged_one_is_not_opened(
 ) -> Result<(), Fail> {
     assert!(rt; Manifest::open(rt.alloc(), file_of(rt.alloc(), &[])?)?.is_none());
     let opened = Manifest::open(rt.alloc(), file_of(rt.alloc(), &UNKNOWN_KIND)?);
-    let wanted = ManifestError::Fault(Fault::UnknownKind { batch: 24, kind: 7 });
+    let wanted = ManifestError::Fault(Fault::UnknownKind { batch: 24, kind: 8 });
     assert_eq!(rt; opened.err(), Some(wanted));
     Ok(())
 }
@@ -315,19 +317,76 @@ fn a_record_that_was_withdrawn_is_not_found(rt: HostRuntime) -> Result<(), Fail>
     Ok(())
 }
 
-/// While a withdrawal fails, the record stays noted.
+/// A record that was only noted is taken back without a call of the device.
 #[test]
-fn a_withdrawal_that_fails_leaves_the_record_noted(rt: HostRuntime) -> Result<(), Fail> {
+fn a_record_that_was_not_written_is_withdrawn_at_once(rt: HostRuntime) -> Result<(), Fail> {
     let alloc = rt.alloc();
-    for call in [1, 2] {
-        let file = failing(alloc, &[], Plan::After(call), false)?;
-        let mut manifest = Manifest::create(alloc, file, 7)?;
+    let file = failing(alloc, &[], Plan::After(1), false)?;
+    let mut manifest = Manifest::create(alloc, file, 7)?;
+    manifest.note(Record::DeletedLedger(12))?;
+    manifest.withdraw(alloc)?;
+    assert_eq!(rt; manifest.noted().len(), 0);
+    assert_eq!(rt; manifest.file().count_failures(), 0);
+    Ok(())
+}
+
+/// A file that cannot be written anew is opened, and nothing is recorded before it can.
+#[test]
+fn a_file_that_cannot_be_written_anew_is_opened(rt: HostRuntime) -> Result<(), Fail> {
+    let alloc = rt.alloc();
+    for renames in [false, true] {
+        let file = failing(alloc, &MANIFEST[..140], Plan::After(1), renames)?;
+        let opened = Manifest::open(alloc, file)?.expect(&rt, "a manifest");
+        let mut manifest = opened.manifest;
+        assert_eq!(rt; (opened.records, opened.torn), (5, 51));
+        assert!(rt; !manifest.is_written());
+        assert_eq!(rt; manifest.file().count_failures(), 1);
+        assert_eq!(rt; manifest.state().durable(1), Some(4096));
         manifest.note(Record::DeletedLedger(12))?;
-        assert_eq!(rt; manifest.withdraw(alloc).err(), Some(ManifestError::Disk));
-        assert_eq!(rt; manifest.noted().len(), 1);
-        assert!(rt; !manifest.state().is_deleted(12));
         manifest.commit(alloc)?;
-        assert!(rt; manifest.state().is_deleted(12));
+        assert!(rt; manifest.is_written() && manifest.state().is_deleted(12));
+        assert_eq!(rt; manifest.file().synced, manifest.file().bytes.len());
+        let bytes = file_of(alloc, &manifest.file().bytes)?;
+        let again = Manifest::open(alloc, bytes)?.expect(&rt, "a manifest");
+        assert_eq!(rt; (again.records, again.torn), (6, 0));
+    }
+    Ok(())
+}
+
+/// Marks: the later one stands, and rules out what is missing, shorter, or of an earlier generation.
+#[test]
+fn a_mark_rules_out_what_lacks_records(rt: HostRuntime) -> Result<(), Fail> {
+    let alloc = rt.alloc();
+    let mut manifest = Manifest::create(alloc, file_of(alloc, &[])?, 7)?;
+    assert_eq!(rt; manifest.state().marked_ledgers(), None);
+    for length in [24, 46] {
+        manifest.note(Record::MarkedLedgers(Mark {
+            generation: 2,
+            length,
+        }))?;
+        manifest.commit(alloc)?;
+    }
+    let file = file_of(alloc, &manifest.file().bytes)?;
+    let again = Manifest::open(alloc, file)?.expect(&rt, "a manifest");
+    let mark = again
+        .manifest
+        .state()
+        .marked_ledgers()
+        .expect(&rt, "a mark");
+    assert_eq!(rt;
+        (again.manifest.state().live(), mark.generation, mark.length),
+        (1, 2, 46)
+    );
+    assert!(rt; mark.rules_out(None));
+    for (generation, length, is) in [
+        (2, 45, true),
+        (2, 46, false),
+        (2, 47, false),
+        (1, 99, true),
+        (3, 24, false),
+    ] {
+        let found = Some(Mark { generation, length });
+        assert_eq!(rt; mark.rules_out(found), is, "{length} of {generation}");
     }
     Ok(())
 }

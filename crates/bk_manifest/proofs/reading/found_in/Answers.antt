@@ -34,14 +34,14 @@ returns-in-Cut-clause-value c =
     let there = read_there c.args.generation c.batches.place c.args.file.now _ c.in-Cut.ensures.value in
     batches_cut c.args.generation c.args.file.now (facts c.batches.records.items) c.batches.place _ c.batches.invariant.inside (sym there) c.batches.invariant.left
 
-pub returns-then-has_batch_behind-clause-value : goal.returns-then-has_batch_behind-clause-value
-returns-then-has_batch_behind-clause-value c =
+pub returns-then-is_torn-clause-value : goal.returns-then-is_torn-clause-value
+returns-then-is_torn-clause-value c =
     let there = read_there c.args.generation c.batches.place c.args.file.now _ c.in-Misfit.ensures.value in
-    batches_damaged c.args.generation c.args.file.now (facts c.batches.records.items) c.batches.place _ c.batches.invariant.inside (sym there)
-    (sym c.has_batch_behind.ensures ∙ c.if-has_batch_behind.true) c.batches.invariant.left
+    batches_torn c.args.generation c.args.file.now (facts c.batches.records.items) c.batches.place c.in-Misfit.size _ c.batches.invariant.inside (sym there)
+    (sym c.is_torn.ensures ∙ c.if-is_torn.true) c.batches.invariant.left
 
 pub returns-in-Misfit-clause-value : goal.returns-in-Misfit-clause-value
 returns-in-Misfit-clause-value c =
     let there = read_there c.args.generation c.batches.place c.args.file.now _ c.in-Misfit.ensures.value in
-    batches_torn c.args.generation c.args.file.now (facts c.batches.records.items) c.batches.place _ c.batches.invariant.inside (sym there)
-    (sym c.has_batch_behind.ensures ∙ c.if-has_batch_behind.false) c.batches.invariant.left
+    batches_damaged c.args.generation c.args.file.now (facts c.batches.records.items) c.batches.place c.in-Misfit.size _ c.batches.invariant.inside (sym there)
+    (sym c.is_torn.ensures ∙ c.if-is_torn.false) c.batches.invariant.left

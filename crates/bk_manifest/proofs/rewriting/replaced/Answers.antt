@@ -1,4 +1,4 @@
-use Rattle.std.proofs.Common.{◌^◌, ◌<◌, ◌∙◌, arith, inl}
+use Rattle.std.proofs.Common.{◌^◌, ◌<◌, ◌∙◌, arith, inl, refl}
 use Rattle.bk_manifest.proofs.Kept.{replaced_means, old_or_new, still_means, on_err}
 use Rattle.bk_manifest.proofs.rewriting.replaced.Goals as goal
 
@@ -16,4 +16,4 @@ returns-clause-ok g c = λ was records is.
     let small : c.args.generation < 2 ^ 64 = omega arith in
     replaced_means records _ c.in_ok-whole.whole.items _ c.args.generation _ _ c.in_ok-whole.ensures.fits small c.in_ok-whole.ensures.ok
     (c.in_ok-whole.ensures.meaning records is) (c.in_ok-replace.ensures.ok was ∙ c.deref.ensures.value) (c.in_ok-replace.ensures.durable was)
-    (omega (arith, c.len.ensures, c.in_ok-whole.whole.ok.0))
+    refl
