@@ -63,7 +63,12 @@ pub fn is_all_dead<D: LogDisk>(store: &Store<D>, log: u32) -> Result<bool, StepF
     let Some(map) = map_at_end(&**view, store.alloc())? else {
         return Ok(false);
     };
-    Ok(map.keys().all(|ledger| store.is_dead(*ledger)))
+    for (ledger, _) in map.iter() {
+        if !store.is_dead(*ledger) {
+            return Ok(false);
+        }
+    }
+    Ok(true)
 }
 
 /// Returns whether an entry in the records of a log is lost: its ledger is live, and the store does

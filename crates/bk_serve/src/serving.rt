@@ -1,5 +1,6 @@
 //! A session over standard input and output.
 
+use crate::background::Background;
 use crate::hinting::{Hinting, wait_for_end};
 use crate::host::{Host, ServedDisk};
 use crate::listing::PAGE;
@@ -7,6 +8,7 @@ use crate::opening::{OpenFault, Opening, TornFile, open};
 use crate::options::Options;
 use crate::pump::{Pumped, pump};
 use crate::served::Served;
+use bk_compact::PassedLog;
 use bk_hint_disk::Unused;
 use bk_manifest_disk::KeptFile;
 use bk_serve_core::{Done, LONGEST_FRAME, Reply, VERSION};
@@ -147,6 +149,7 @@ fn serve_host<H: Threads + Wait + Clock + Copy + Drop + Send + Sync + 'static, R
     };
     let status = serve_session(&readers, &mut served, reader, writer, buffers);
     tell_faults(served.host.background.faults(), errors);
+    tell_passed(&served.host.background, errors);
     status
 }
 
@@ -154,6 +157,15 @@ fn serve_host<H: Threads + Wait + Clock + Copy + Drop + Send + Sync + 'static, R
 fn tell_faults(faults: u64, errors: &mut Stderr) {
     if faults > 0 {
         let _ = writeln!(errors, "note compaction: {faults} steps failed");
+    }
+}
+
+/// Reports which logs the compactions of the session passed over.
+fn tell_passed(background: &Background, errors: &mut Stderr) {
+    let mut number = 0usize;
+    while let Some(PassedLog { log, cause }) = background.passed(number) {
+        let _ = writeln!(errors, "note log {log}: not compacted: {cause}");
+        number += 1;
     }
 }
 

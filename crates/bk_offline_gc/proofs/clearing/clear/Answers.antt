@@ -16,4 +16,4 @@ returns-clause-done g c =
     let t = c.close_unnamed.new.store in
     let u = c.remove.new.store in
     let turn = subst (λ (r : RemoveAnswer). RemoveTransition t c.args.log (Ok r) u) c.in-Removed.is c.in_ok-remove.ensures.transition in
-    remove_leaves t u c.args.log turn
+    λ _. remove_leaves t u c.args.log turn
