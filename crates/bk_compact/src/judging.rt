@@ -53,10 +53,7 @@ pub fn removal_cause<D: LogDisk>(
 /// # Errors
 ///
 /// - `AllocError` if an allocation fails. Some logs may have been added.
-pub fn pass_damaged<D: LogDisk>(
-    store: &Store<D>,
-    passed: &mut PassedLogs,
-) -> Result<(), AllocError>
+pub fn pass_damaged<D: LogDisk>(store: &Store<D>, passed: &mut PassedLogs) -> Result<(), AllocError>
     ensures grows { length passed.old ≤ length passed.new }
 {
     if let Ok(false) = may_differ(store) {

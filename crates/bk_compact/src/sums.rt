@@ -175,7 +175,11 @@ fn map_at_end<V: LogView>(
             Err(Ended::Step(fault)) => return Err(fault),
         }
     }
-    if map.is_empty() { Ok(None) } else { Ok(Some(map)) }
+    if map.is_empty() {
+        Ok(None)
+    } else {
+        Ok(Some(map))
+    }
 }
 
 /// Why a ledgers map was not read.
