@@ -79,7 +79,7 @@ end_next s t (Ok ends.NoJob) turn = ap (λ (x : State). x.next) turn.1
 end_next s t (Ok ends.NotNow) turn = ap (λ (x : State). x.next) turn.1
 end_next s t (Ok ends.NotAtEnd) turn = ap (λ (x : State). x.next) turn.3
 end_next s t (Ok (ends.Ended count)) turn =
-    ap (λ (x : State). x.next) turn.3.2 ∙ ap (λ (x : State). x.next) turn.3.1.2.2.3 ∙ sealed_next s turn.3.0 turn.0 (Ok tt) turn.3.1.1
+    ap (λ (x : State). x.next) turn.3.2 ∙ ap (λ (x : State). x.next) turn.3.1.2.2.3 ∙ sealed_next s turn.3.1.0 turn.0 (Ok tt) turn.3.1.1
 end_next s t (Err fault) turn = elim turn.2 [
   | inl unread ↦ ap (λ (x : State). x.next) unread.1.2
   | inr refused ↦ elim refused.2 [

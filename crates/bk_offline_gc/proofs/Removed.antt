@@ -1,5 +1,5 @@
 -- Removal of logs that no key names: one log, and all logs in order.
-use Rattle.std.proofs.Common.{◌≡◌, ◌⊎◌, inl, inr, ℕ, List, ◌+◌, ◌<◌, ◌≤◌, true, false, Some, None, is_some, Ok, Err, refl, sym, ap, subst, ◌∙◌, arith}
+use Rattle.std.proofs.Common.{◌≡◌, ◌⊎◌, inl, inr, ℕ, List, ◌+◌, ◌<◌, ◌≤◌, Bool, true, false, Some, None, is_some, Ok, Err, refl, sym, ap, subst, ◌∙◌, arith}
 use Rattle.std.proofs.Math.Decide.{dec_le}
 use Rattle.std.proofs.lemmas.Option.{same_Some}
 use Rattle.std.specs.FinMap as finite
@@ -24,7 +24,7 @@ use Rattle.bk_collect.specs.declared.answer.RemoveAnswer.TheVariants as removes
 use Rattle.bk_collect.specs.declared.answer.CollectFault.{CollectFault}
 use Rattle.bk_collect.specs.declared.answer.CollectFault.TheVariants as collect_faults
 use Rattle.bk_compact.specs.Compacting.{is_among}
-use Rattle.bk_offline_gc.specs.Stages.{Touches, IsDoneWith, IsCleared, IsClearedTo}
+use Rattle.bk_offline_gc.specs.Stages.{KeepsPassed, Touches, IsDoneWith, IsCleared, IsClearedTo}
 use Rattle.bk_offline_gc.specs.Sweeping.{HadLeases, IsLeft, SweepFrame}
 
 -- ---- frames
@@ -246,6 +246,23 @@ module _ (s t : State) (log : ℕ) where
     | inr retired ↦ let e : Retired ≡ Closed = never_in s log Retired Closed retired closed in cc
   ]
 
+-- ---- logs that are passed over
+
+pub keeps_none : (s t : State) (passed : List ℕ) → t ≡ s → KeepsPassed s passed t
+keeps_none s t passed same = record { each = λ log _. ap (λ (x : State). finite.get x.logs log) same }
+
+pub keeps_then : (s t u : State) (passed : List ℕ) → KeepsPassed s passed t → KeepsPassed t passed u → KeepsPassed s passed u
+keeps_then s t u passed first second = record { each = λ log among. second.each log among ∙ first.each log among }
+
+-- a part of a sweep that changes at most a log that is not passed over
+pub keeps_other : (s t : State) (passed : List ℕ) (log : ℕ) → is_among passed log ≡ false → Touches s log t → KeepsPassed s passed t
+keeps_other s t passed log kept touches = record {
+  each = λ id among. touches.others id (λ same. not_both (subst (λ (n : ℕ). is_among passed n ≡ true) same among) kept);
+}
+  where
+    not_both : {b : Bool} → b ≡ true → b ≡ false → ⊥
+    not_both one other = cc
+
 -- ---- all logs
 
 pub had_on : (s t : State) (log : ℕ) → SweepFrame s t → HadLeases s log → HadLeases t log
@@ -266,16 +283,18 @@ cleared_none s passed idle = record {
   failures = refl;
   idle = idle;
   next = refl;
+  kept = keeps_none s s passed refl;
   done = λ log wrong. absurd (omega (arith, wrong));
 }
 
 pub cleared_on : (s t u : State) (passed : List ℕ) (from log : ℕ) → IsClearedTo s passed from t → IsNextHeld t.logs from (Some log) → SweepFrame t u
-    → u.failures ≡ t.failures → Touches t log u → (is_among passed log ≡ false → IsDoneWith u log) → IsClearedTo s passed (log + 1) u
-cleared_on s t u passed from log so_far next frame failures touches done = record {
+    → u.failures ≡ t.failures → KeepsPassed t passed u → Touches t log u → (is_among passed log ≡ false → IsDoneWith u log) → IsClearedTo s passed (log + 1) u
+cleared_on s t u passed from log so_far next frame failures keeps touches done = record {
   frame = frame_then s t u so_far.frame frame;
   failures = failures ∙ so_far.failures;
   idle = touches.job ∙ so_far.idle;
   next = touches.next ∙ so_far.next;
+  kept = keeps_then s t u passed so_far.kept keeps;
   done = by;
 }
   where

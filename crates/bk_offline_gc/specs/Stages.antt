@@ -1,5 +1,5 @@
 -- The parts of a sweep: what each leaves for the next.
-use Rattle.std.specs.Prelude.{◌≡◌, ◌≢◌, ◌↔◌, ℕ, ◌<◌, ◌≤◌, ◌^◌, false, IsTrue, [], length, Contains, List, Some, None}
+use Rattle.std.specs.Prelude.{◌≡◌, ◌≢◌, ◌↔◌, ℕ, ◌<◌, ◌≤◌, ◌^◌, true, false, IsTrue, [], length, Contains, List, Some, None}
 use Rattle.std.specs.FinMap as finite
 use Rattle.bk_store.specs.State.{State}
 use Rattle.bk_store.specs.Logs.{Log}
@@ -19,6 +19,10 @@ pub record Touches (s : State) (log : ℕ) (t : State) : Type 0 where
   pub index : t.index ≡ s.index
   pub others : (id : ℕ) → id ≢ log → finite.get t.logs id ≡ finite.get s.logs id
 
+-- the logs that are passed over are unchanged
+pub record KeepsPassed (s : State) (passed : List ℕ) (t : State) : Type 0 where
+  pub each : (log : ℕ) → is_among passed log ≡ true → finite.get t.logs log ≡ finite.get s.logs log
+
 -- if the log is held, nothing is left to do with it
 abbrev pub IsDoneWith : State → ℕ → Type 0
 IsDoneWith s log = (held : Log) → finite.get s.logs log ≡ Some held → IsLeft s log held.state
@@ -33,6 +37,7 @@ pub record IsClearedTo (s : State) (passed : List ℕ) (from : ℕ) (t : State) 
   pub failures : t.failures ≡ s.failures
   pub idle : t.job ≡ None
   pub next : t.next ≡ s.next
+  pub kept : KeepsPassed s passed t
   pub done : (log : ℕ) → log < from → is_among passed log ≡ false → IsDoneWith t log
 
 -- of the logs below this id, so many are Retired

@@ -7,7 +7,7 @@ ghost use Rattle.bk_store.specs.Primitives.{IsIn};
 ghost use Rattle.bk_store.specs.declared.log.LogState.TheVariants.{Closed as ClosedState};
 ghost use Rattle.bk_compact.specs.Compacting.{is_among};
 ghost use Rattle.bk_offline_gc.specs.Faults.{ReportsFaults};
-ghost use Rattle.bk_offline_gc.specs.Stages.{IsCleared, IsDoneWith, Touches};
+ghost use Rattle.bk_offline_gc.specs.Stages.{IsCleared, IsDoneWith, KeepsPassed, Touches};
 ghost use Rattle.bk_offline_gc.specs.Sweeping.{HasKept, SweepFrame, is_retired as is_retired_state};
 
 use crate::{PassedLogs, SweepFault, Swept, Watch};
@@ -27,6 +27,7 @@ pub(crate) fn clear_all<D: LogDisk, W: Watch>(
     ensures leaves { SweepFrame store.old store.new }
     ensures cause { ReportsFaults (AreSound D.View.sound) store.old result store.new }
     ensures idle { store.new.job ≡ None }
+    ensures kept { KeepsPassed store.old passed.now store.new }
     ensures done { OnOk result (IsCleared store.new passed.now × (store.new.next ≡ store.old.next)) }
 {
     let mut from = 0;
@@ -50,6 +51,7 @@ fn clear<D: LogDisk, W: Watch>(
     ensures leaves { SweepFrame store.old store.new }
     ensures cause { ReportsFaults (AreSound D.View.sound) store.old result store.new }
     ensures touches { Touches store.old log store.new }
+    ensures kept { KeepsPassed store.old passed.now store.new }
     ensures done { OnOk result (is_among passed.now log ≡ false → IsDoneWith store.new log) }
 {
     if passed.contains(log) {

@@ -76,6 +76,7 @@ fn compact<D: LogDisk, W: Watch>(
 }
 
 /// Copies all entries of the source log that the index points to, in batches.
+#[tactic(auto, using(crate::proofs::Copying::copy_next))]
 fn copy_all<D: LogDisk, W: Watch>(
     store: &mut Store<D>,
     swept: &mut Swept,
@@ -112,6 +113,7 @@ fn copy_all<D: LogDisk, W: Watch>(
 }
 
 /// Seals and publishes the target log.
+#[tactic(auto, using(crate::proofs::Moving::end_next))]
 fn publish<D: LogDisk>(store: &mut Store<D>) -> Result<(), SweepFault>
     requires { HasCopied store.old }
     ensures leaves { SweepFrame store.old store.new }
