@@ -85,11 +85,7 @@ fn add_planned<D: LogDisk>(
 
 /// Returns the number of logs that a sweep of this kind would compact or remove, but those that it
 /// passes over. Reads no log.
-pub(crate) fn count_planned<D: LogDisk>(
-    store: &Store<D>,
-    kind: Kind,
-    passed: &PassedLogs,
-) -> u64 {
+pub(crate) fn count_planned<D: LogDisk>(store: &Store<D>, kind: Kind, passed: &PassedLogs) -> u64 {
     let threshold = threshold(store, kind);
     let mut count = 0u64;
     let mut from = 0;

@@ -9,8 +9,8 @@ ghost use Rattle.bk_offline_gc.specs.Sweeping.{HasKept, IsSweptBut, SweepFrame, 
 
 use crate::clearing::{clear_all, count_kept};
 use crate::compacting::compact_next;
-use crate::planning::count_planned;
 use crate::passed::pass_damaged;
+use crate::planning::count_planned;
 use crate::{PassedLogs, SweepFault, Swept, Watch};
 use bk_compact::Kind;
 use bk_disk::LogDisk;
