@@ -1,4 +1,4 @@
-use Rattle.std.proofs.Common.{ℕ, List, Ok, subst}
+use Rattle.std.proofs.Common.{ℕ, List, Ok, refl, subst}
 use Rattle.bk_compact.specs.Compacting.{BeginButTransition}
 use Rattle.bk_compact.specs.declared.answer.BeginAnswer.{BeginAnswer}
 use Rattle.bk_compact.specs.declared.answer.BeginAnswer.TheVariants.{Chosen, NothingToDo}
@@ -20,4 +20,5 @@ returns-in-NothingToDo-clause-none g c =
     let t = c.begin_but.new.store in
     let turn = subst (λ (ids : List ℕ). BeginButTransition s c.args.kind ids (Ok NothingToDo) t) c.ids.ensures
     (subst (λ (r : BeginAnswer). BeginButTransition s c.args.kind c.ids.result.now (Ok r) t) c.in-NothingToDo.is c.in_ok-begin_but.ensures.transition) in
-    nothing_left s t c.args.kind c.args.passed.now turn
+    let left = nothing_left s t c.args.kind c.args.passed.now turn in
+    (left.0, refl, left.1)
