@@ -71,6 +71,11 @@ impl Background {
         &mut self.passing
     }
 
+    /// Returns the number of logs that are passed over.
+    pub fn passed_count(&self) -> usize {
+        self.passing.ids().len()
+    }
+
     /// Returns the log at this place of those that are passed over, `None` behind the last one.
     pub fn passed(&self, number: usize) -> Option<PassedLog> {
         self.passing.get(number)
@@ -130,12 +135,7 @@ impl Background {
 
     /// Performs a step. A compaction begins with a log that is not passed over.
     #[tactic(auto, using(crate::proofs::Steps::then, crate::proofs::Steps::stays))]
-    fn perform<D: LogDisk>(
-        &self,
-        store: &mut Store<D>,
-        tally: &mut Tally,
-        work: Work,
-    ) -> Answer
+    fn perform<D: LogDisk>(&self, store: &mut Store<D>, tally: &mut Tally, work: Work) -> Answer
         ensures works { Extends tally.old store.old tally.new store.new }
     {
         match work {

@@ -5,8 +5,8 @@ ghost use Rattle.std.specs.Prelude.{◌↔◌, IsTrue};
 ghost use Rattle.bk_serve.specs.Flushes.{CompactAnswers, IsThreshold};
 ghost use Rattle.bk_serve.specs.Works.{Extends};
 
-use crate::refusals::{of_collect, of_step};
 use crate::passing::Passing;
+use crate::refusals::{of_collect, of_step};
 use crate::tally::{Tally, begin_step, step};
 use bk_disk::LogDisk;
 use bk_drive::{

@@ -1,6 +1,5 @@
 //! A session over standard input and output.
 
-use crate::background::Background;
 use crate::hinting::{Hinting, wait_for_end};
 use crate::host::{Host, ServedDisk};
 use crate::listing::PAGE;
@@ -8,7 +7,6 @@ use crate::opening::{OpenFault, Opening, TornFile, open};
 use crate::options::Options;
 use crate::pump::{Pumped, pump};
 use crate::served::Served;
-use bk_compact::PassedLog;
 use bk_hint_disk::Unused;
 use bk_manifest_disk::KeptFile;
 use bk_serve_core::{Done, LONGEST_FRAME, Reply, VERSION};
@@ -121,13 +119,16 @@ fn begin<H: Threads + Wait + Copy + Drop + Send + 'static>(
     errors: &mut Stderr,
 ) -> (Served<H>, Option<Receiver<()>>) {
     if !options.hints {
-        return (Served::new(host, handle, None), None);
+        return (Served::new(host, rt.stderr(), handle, None), None);
     }
     match Hinting::new(rt, handle, path) {
-        Some(Hinting { due, ended }) => (Served::new(host, handle, Some(due)), Some(ended)),
+        Some(Hinting { due, ended }) => (
+            Served::new(host, rt.stderr(), handle, Some(due)),
+            Some(ended),
+        ),
         None => {
             let _ = writeln!(errors, "note hint not written: no memory or no thread");
-            (Served::new(host, handle, None), None)
+            (Served::new(host, rt.stderr(), handle, None), None)
         }
     }
 }
@@ -149,7 +150,6 @@ fn serve_host<H: Threads + Wait + Clock + Copy + Drop + Send + Sync + 'static, R
     };
     let status = serve_session(&readers, &mut served, reader, writer, buffers);
     tell_faults(served.host.background.faults(), errors);
-    tell_passed(&served.host.background, errors);
     status
 }
 
@@ -157,15 +157,6 @@ fn serve_host<H: Threads + Wait + Clock + Copy + Drop + Send + Sync + 'static, R
 fn tell_faults(faults: u64, errors: &mut Stderr) {
     if faults > 0 {
         let _ = writeln!(errors, "note compaction: {faults} steps failed");
-    }
-}
-
-/// Reports which logs the compactions of the session passed over.
-fn tell_passed(background: &Background, errors: &mut Stderr) {
-    let mut number = 0usize;
-    while let Some(PassedLog { log, cause }) = background.passed(number) {
-        let _ = writeln!(errors, "note log {log}: not compacted: {cause}");
-        number += 1;
     }
 }
 

@@ -6,11 +6,9 @@ ghost use Rattle.bk_drive.specs.Machine.{WorkTransition};
 ghost use Rattle.bk_serve.specs.Works as says;
 ghost use Rattle.bk_serve.specs.Works.{Extends, tally_after};
 
-use bk_disk::LogDisk;
 use bk_compact::begin_but;
-use bk_drive::{
-    Answer, BeginAnswer, CopyAnswer, Kind, PublishAnswer, RemoveAnswer, Work, apply,
-};
+use bk_disk::LogDisk;
+use bk_drive::{Answer, BeginAnswer, CopyAnswer, Kind, PublishAnswer, RemoveAnswer, Work, apply};
 use bk_store::{StepFault, Store};
 
 /// What steps did: entries published and copied, logs removed. Each count saturates at 2^64 - 1.
