@@ -31,21 +31,18 @@ class Length(kit.Case):
     def test_check_finds_it(self):
         self.assertIn("0 ", self.bookie("check", self.logs, status=1)[0])
 
-    @unittest.expectedFailure  # the log is removed, with the entries behind the flipped bit
     def test_compaction_of_the_server_loses_nothing(self):
         opened = self.serve()
         self.assertEqual(opened.call("delete", ledger=1).name, "dropped")
         opened.call("compact", minor=200, major=800)
         self.assert_kept()
 
-    @unittest.expectedFailure  # the log is removed, with the entries behind the flipped bit
     def test_compaction_in_the_background_loses_nothing(self):
         opened = self.serve(*kit.compact_words(200, 800))
         self.assertEqual(opened.call("delete", ledger=1).name, "dropped")
         kit.wait_until(lambda: not self.log_names(), kit.SILENCE)
         self.assert_kept()
 
-    @unittest.expectedFailure  # the log is removed, with the entries behind the flipped bit
     def test_compaction_by_the_shell_loses_nothing(self):
         self.call("compact", "--dead", "1", self.logs)
         self.assert_kept()

@@ -56,19 +56,16 @@ class Record(kit.Case):
         )
         self.assertEqual(opened.read(LIVE, 0), content(LIVE, 0))
 
-    @unittest.expectedFailure  # the damaged log is tried first and ends each round
     def test_request_compacts_the_others(self):
         opened = self.session()
         opened.call("compact", minor=200, major=800)
         self.assertEqual(self.left(), [])
 
-    @unittest.expectedFailure  # the damaged log is tried first and ends each round
     def test_background_compacts_the_others(self):
         self.session(*kit.compact_words(200, 800))
         kit.wait_until(lambda: not self.left(), kit.SILENCE)
         self.assertEqual(self.left(), [])
 
-    @unittest.expectedFailure  # each try leaves what it copied
     def test_tries_leave_no_copies(self):
         opened = self.session()
         sizes = []

@@ -51,7 +51,6 @@ class Forged(kit.Case):
                 len(ran.stdout.splitlines()) == 200 or b"hint not used" in ran.stderr, place
             )
 
-    @unittest.expectedFailure  # a record that is named as a copy of another is lost with its log
     def test_compaction_keeps_each_entry(self):
         wanted = {it[:2]: it[2] for it in ENTRIES}
         for place in PLACES:

@@ -1,6 +1,6 @@
 -- The choice among the logs considered so far, and with one more.
-use Rattle.std.proofs.Common.{◌≡◌, ◌⊎◌, inl, inr, ℕ, zero, suc, ◌+◌, ◌*◌, ◌<◌, ◌≤◌, true, false, IsTrue, List, []}
-use Rattle.std.proofs.Common.{◌∷◌, ◌++◌, Option, Some, None, IsSome, IfSome, is_some, refl, sym, ap, subst, ◌∙◌, arith}
+use Rattle.std.proofs.Common.{◌≡◌, ◌⊎◌, inl, inr, ℕ, zero, suc, ◌+◌, ◌*◌, ◌<◌, ◌≤◌, Bool, true, false, IsTrue, List, []}
+use Rattle.std.proofs.Common.{◌∷◌, ◌++◌, Option, Some, None, Result, Ok, Err, IsSome, IfSome, is_some, refl, sym, ap, subst, ◌∙◌, arith}
 use Rattle.std.proofs.lemmas.Bool.{cases_lt}
 use Rattle.std.proofs.lemmas.Option.{same_Some}
 use Rattle.std.proofs.Math.Decide.{dec_le}
@@ -15,7 +15,11 @@ use Rattle.bk_store.specs.declared.log.LogState.{LogState}
 use Rattle.bk_store.specs.declared.log.LogState.TheVariants.{Writing, Filled, Copying, Readable, Retired, Closed}
 use Rattle.bk_store.specs.State.{State}
 use Rattle.bk_store.specs.CompactionPrimitives.{IsLeastUsed, log_bytes, live_log_bytes}
-use Rattle.bk_compact.specs.Compacting.{Chooses, IsCandidate}
+use Rattle.bk_store.specs.declared.step_fault.StepFault.{StepFault}
+use Rattle.bk_compact.specs.declared.answer.Kind.{Kind}
+use Rattle.bk_compact.specs.declared.answer.BeginAnswer.{BeginAnswer}
+use Rattle.bk_compact.specs.declared.answer.BeginAnswer.TheVariants as begins
+use Rattle.bk_compact.specs.Compacting.{BeginButTransition, BeginTransition, Chooses, ChoosesBut, IsCandidate, IsChosen, IsChosenBut, MayCompact, is_among, threshold_of}
 use Rattle.bk_compact.specs.JobSteps.{IsBetter, IsChoosing}
 
 -- ---- lists of one or two
@@ -129,12 +133,26 @@ candidate_or_not s id = of_log (finite.get s.logs id) refl
         not_held : (log : Log) → None ≡ Some log → ⊥
         not_held log wrong = cc
 
-pub candidate_held : (s : State) (best : Option ℕ) → IfSome best (IsCandidate s) → IfSome best (λ id. IsSome (finite.get s.logs id))
-candidate_held s None is = tt
-candidate_held s (Some id) is = ap is_some is.state.held
+-- whether a log may be compacted is decidable
+may_or_not : (s : State) (passed : List ℕ) (id : ℕ) → MayCompact s passed id ⊎ (¬ (MayCompact s passed id))
+may_or_not s passed id = elim (candidate_or_not s id) [
+  | inr not ↦ inr (λ may. not may.candidate)
+  | inl is ↦ of_bool is (is_among passed id) refl
+]
+  where
+    of_bool : IsCandidate s id → (b : Bool) → is_among passed id ≡ b → MayCompact s passed id ⊎ (¬ (MayCompact s passed id))
+    of_bool is false kept = inl (record { candidate = is; kept = kept })
+    of_bool is true among = inr (λ may. not_both among may.kept)
+      where
+        not_both : {b : Bool} → b ≡ true → b ≡ false → ⊥
+        not_both one other = cc
 
-module _ (s : State) (threshold : ℕ) where
-  pub choosing_starts : IsChoosing s threshold 0 None
+pub may_held : (s : State) (passed : List ℕ) (best : Option ℕ) → IfSome best (MayCompact s passed) → IfSome best (λ id. IsSome (finite.get s.logs id))
+may_held s passed None is = tt
+may_held s passed (Some id) is = ap is_some is.candidate.state.held
+
+module _ (s : State) (passed : List ℕ) (threshold : ℕ) where
+  pub choosing_starts : IsChoosing s passed threshold 0 None
   choosing_starts = record {
     allowed = [];
     all = λ id. ((λ there. absurd (omega (arith, there.1))), (λ is. absurd (omega (arith, is.1))));
@@ -142,58 +160,58 @@ module _ (s : State) (threshold : ℕ) where
     candidate = tt;
   }
 
-  pub choosing_ends : (from : ℕ) (best : Option ℕ) → IsNextHeld s.logs from None → IsChoosing s threshold from best → IsTrue s.honest → Chooses s threshold best
+  pub choosing_ends : (from : ℕ) (best : Option ℕ) → IsNextHeld s.logs from None → IsChoosing s passed threshold from best → IsTrue s.honest → ChoosesBut s passed threshold best
   choosing_ends from best past so_far honest = (
     so_far.allowed,
     (λ id. (
       (λ there. ((so_far.all id).0 there).0),
-      (λ is. (so_far.all id).1 (is, past id (ap is_some is.state.held))),
+      (λ is. (so_far.all id).1 (is, past id (ap is_some is.candidate.state.held))),
     )),
     so_far.choice honest,
   )
 
-  pub chosen_candidate : (from : ℕ) (best : Option ℕ) → IsChoosing s threshold from best → IfSome best (IsCandidate s)
+  pub chosen_candidate : (from : ℕ) (best : Option ℕ) → IsChoosing s passed threshold from best → IfSome best (MayCompact s passed)
   chosen_candidate from None so_far = tt
   chosen_candidate from (Some id) so_far = so_far.candidate.0
 
   module _ (from log : ℕ) (next : IsNextHeld s.logs from (Some log)) where
-    -- a candidate below the next position was considered or is the next log
-    here : (id : ℕ) → IsCandidate s id → id < log + 1 → (id < from) ⊎ (id ≡ log)
+    -- a log that may be compacted, below the next position, was considered or is the next log
+    here : (id : ℕ) → MayCompact s passed id → id < log + 1 → (id < from) ⊎ (id ≡ log)
     here id is within = elim (dec_le from id) [
       | no less ↦ inl (omega (arith, less))
-      | yes above ↦ let least = next.2 id (ap is_some is.state.held) above in inr (omega (arith, least, within))
+      | yes above ↦ let least = next.2 id (ap is_some is.candidate.state.held) above in inr (omega (arith, least, within))
     ]
 
-    -- the next log is not a candidate
-    pub choosing_past : (best : Option ℕ) → IsChoosing s threshold from best → ¬ (IsCandidate s log) → IsChoosing s threshold (log + 1) best
+    -- the next log may not be compacted
+    pub choosing_past : (best : Option ℕ) → IsChoosing s passed threshold from best → ¬ (MayCompact s passed log) → IsChoosing s passed threshold (log + 1) best
     choosing_past best so_far not = record {
       allowed = so_far.allowed;
       all = λ id. (
         (λ there. let is = (so_far.all id).0 there in (is.0, omega (arith, is.1, next.1))),
         (λ is. elim (here id is.0 is.1) [
           | inl before ↦ (so_far.all id).1 (is.0, before)
-          | inr own ↦ absurd (not (subst (IsCandidate s) own is.0))
+          | inr own ↦ absurd (not (subst (MayCompact s passed) own is.0))
         ]),
       );
       choice = so_far.choice;
       candidate = still best so_far.candidate;
     }
       where
-        still : (best : Option ℕ) → IfSome best (λ id. IsCandidate s id × (id < from)) → IfSome best (λ id. IsCandidate s id × (id < log + 1))
+        still : (best : Option ℕ) → IfSome best (λ id. MayCompact s passed id × (id < from)) → IfSome best (λ id. MayCompact s passed id × (id < log + 1))
         still None old = tt
         still (Some id) old = (old.0, omega (arith, old.1, next.1))
 
-    -- the next log is a candidate
-    module _ (is : IsCandidate s log) where
-      more : (best now : Option ℕ) → (so_far : IsChoosing s threshold from best)
-          → (IsTrue s.honest → IsLeastUsed s threshold (so_far.allowed ++ log ∷ []) now) → IfSome now (λ id. IsCandidate s id × (id < log + 1))
-          → IsChoosing s threshold (log + 1) now
+    -- the next log may be compacted
+    module _ (is : MayCompact s passed log) where
+      more : (best now : Option ℕ) → (so_far : IsChoosing s passed threshold from best)
+          → (IsTrue s.honest → IsLeastUsed s threshold (so_far.allowed ++ log ∷ []) now) → IfSome now (λ id. MayCompact s passed id × (id < log + 1))
+          → IsChoosing s passed threshold (log + 1) now
       more best now so_far choice candidate = record {
         allowed = so_far.allowed ++ log ∷ [];
         all = λ id. (
           (λ there. elim (Contains-append_cases so_far.allowed (log ∷ []) id there) [
             | inl old ↦ let was = (so_far.all id).0 old in (was.0, omega (arith, was.1, next.1))
-            | inr last ↦ let own = only log id last in (subst (IsCandidate s) own is, omega (arith, own))
+            | inr last ↦ let own = only log id last in (subst (MayCompact s passed) own is, omega (arith, own))
           ]),
           (λ now. elim (here id now.0 now.1) [
             | inl before ↦ Contains-append_left so_far.allowed (log ∷ []) id ((so_far.all id).1 (now.0, before))
@@ -204,8 +222,8 @@ module _ (s : State) (threshold : ℕ) where
         candidate = candidate;
       }
 
-      pub choosing_taken : (best : Option ℕ) → IsChoosing s threshold from best → (IsTrue s.honest → IsBetter s threshold best log true)
-          → IsChoosing s threshold (log + 1) (Some log)
+      pub choosing_taken : (best : Option ℕ) → IsChoosing s passed threshold from best → (IsTrue s.honest → IsBetter s threshold best log true)
+          → IsChoosing s passed threshold (log + 1) (Some log)
       choosing_taken None so_far better = more None (Some log) so_far
           (λ honest. first_taken (log_bytes s) (live_log_bytes s) threshold so_far.allowed log (so_far.choice honest) (better honest))
           (is, omega arith)
@@ -214,8 +232,8 @@ module _ (s : State) (threshold : ℕ) where
           (so_far.choice honest) (better honest))
           (is, omega arith)
 
-      choosing_kept : (best : Option ℕ) → IsChoosing s threshold from best → (IsTrue s.honest → IsBetter s threshold best log false)
-          → IsChoosing s threshold (log + 1) best
+      choosing_kept : (best : Option ℕ) → IsChoosing s passed threshold from best → (IsTrue s.honest → IsBetter s threshold best log false)
+          → IsChoosing s passed threshold (log + 1) best
       choosing_kept None so_far better = more None None so_far
           (λ honest. first_spared (log_bytes s) (live_log_bytes s) threshold so_far.allowed log (so_far.choice honest) (better honest).0
           (least_is s threshold (better honest).0 (log ∷ []) (better honest).1) (better honest).2)
@@ -225,10 +243,36 @@ module _ (s : State) (threshold : ℕ) where
           (so_far.choice honest) (better honest).0 (least_is s threshold (better honest).0 (best ∷ log ∷ []) (better honest).1) (better honest).2)
           (so_far.candidate.0, omega (arith, so_far.candidate.1, next.1))
 
-    -- the next log is not better, whether or not it is a candidate
-    pub choosing_spared : (best : Option ℕ) → IsChoosing s threshold from best → (IsTrue s.honest → IsBetter s threshold best log false)
-        → IsChoosing s threshold (log + 1) best
-    choosing_spared best so_far better = elim (candidate_or_not s log) [
+    -- the next log is not better, whether or not it may be compacted
+    pub choosing_spared : (best : Option ℕ) → IsChoosing s passed threshold from best → (IsTrue s.honest → IsBetter s threshold best log false)
+        → IsChoosing s passed threshold (log + 1) best
+    choosing_spared best so_far better = elim (may_or_not s passed log) [
       | inl is ↦ choosing_kept is best so_far better
       | inr not ↦ choosing_past best so_far not
     ]
+
+-- ---- no log is passed over
+
+-- then the choice is among all candidates
+pub chooses_all : (s : State) (threshold : ℕ) (chosen : Option ℕ) → ChoosesBut s [] threshold chosen → Chooses s threshold chosen
+chooses_all s threshold chosen is = (
+  is.0,
+  (λ id. (
+    (λ there. ((is.1 id).0 there).candidate),
+    (λ candidate. (is.1 id).1 (record { candidate = candidate; kept = refl })),
+  )),
+  is.2,
+)
+
+chosen_all : (s : State) (kind : Kind) (log : ℕ) → IsChosenBut s kind [] log → IsChosen s kind log
+chosen_all s kind log is = record {
+  none = is.none;
+  candidate = is.may.candidate;
+  choice = λ honest. chooses_all s (threshold_of s.settings kind) (Some log) (is.choice honest);
+}
+
+pub begins_all : (s : State) (kind : Kind) (r : Result BeginAnswer StepFault) (t : State) → BeginButTransition s kind [] r t → BeginTransition s kind r t
+begins_all s kind (Ok begins.JobRunning) t turn = turn
+begins_all s kind (Ok begins.NothingToDo) t turn = (turn.0, (λ honest. chooses_all s (threshold_of s.settings kind) None (turn.1 honest)), turn.2)
+begins_all s kind (Ok (begins.Chosen log)) t turn = (chosen_all s kind log turn.0, turn.1)
+begins_all s kind (Err fault) t turn = ((turn.0.0, chosen_all s kind turn.0.0 turn.0.1), turn.1)

@@ -15,7 +15,7 @@ use Rattle.bk_store.specs.declared.log.LogState.TheVariants.{Copying, Readable}
 use Rattle.bk_store.specs.Frame.{FrameUnchanged}
 use Rattle.bk_store.proofs.FrameLemmas.{still_same, then, still_beside}
 use Rattle.bk_store.proofs.PrimitiveFrames.{job_still, make_still, put_still, seals_still, set_still, show_still, rename_still}
-use Rattle.bk_compact.specs.Compacting.{BeginTransition, CopyTransition, EndCopyTransition, SwitchTransition, ContinuesCopying, Steps}
+use Rattle.bk_compact.specs.Compacting.{BeginButTransition, CopyTransition, EndCopyTransition, SwitchTransition, ContinuesCopying, Steps}
 use Rattle.bk_compact.specs.Compacting.{AbortsCopying, Copies, Examines, ExaminesAll, SealsCopy, ShowsCopy, TakesMoves, with_job}
 use Rattle.bk_compact.specs.declared.answer.Kind.{Kind}
 use Rattle.bk_compact.specs.declared.answer.BeginAnswer.{BeginAnswer}
@@ -31,12 +31,12 @@ use Rattle.bk_store.specs.declared.step_fault.StepFault.TheVariants as step_faul
 
 -- ---- the begin
 
-pub begin_still : (s t : State) (kind : Kind) (r : Result BeginAnswer StepFault) → BeginTransition s kind r t → FrameUnchanged s t
-begin_still s t kind (Ok begins.JobRunning) turn = still_same s t turn.1
-begin_still s t kind (Ok begins.NothingToDo) turn = still_same s t turn.2
-begin_still s t kind (Ok (begins.Chosen log)) turn =
+pub begin_but_still : (s t : State) (kind : Kind) (passed : List ℕ) (r : Result BeginAnswer StepFault) → BeginButTransition s kind passed r t → FrameUnchanged s t
+begin_but_still s t kind passed (Ok begins.JobRunning) turn = still_same s t turn.1
+begin_but_still s t kind passed (Ok begins.NothingToDo) turn = still_same s t turn.2
+begin_but_still s t kind passed (Ok (begins.Chosen log)) turn =
     then (make_still s turn.1.1.0 Copying (Ok turn.1.0) turn.1.1.1) (job_still turn.1.1.0 t _ turn.1.1.2)
-begin_still s t kind (Err fault) turn = make_still s t Copying (Err turn.1.0) turn.1.2
+begin_but_still s t kind passed (Err fault) turn = make_still s t Copying (Err turn.1.0) turn.1.2
 
 -- ---- copying
 

@@ -32,7 +32,7 @@ use Rattle.bk_store.proofs.Cases.{same_or_apart}
 use Rattle.bk_store.proofs.Growing.{entry_same}
 use Rattle.bk_store.proofs.LogMaps.{log-inserted, log-insert_else}
 use Rattle.bk_store.proofs.JobStays.{part_same, view_same, in_same}
-use Rattle.bk_compact.specs.Compacting.{Copies, Examines, behind, place_of}
+use Rattle.bk_compact.specs.Compacting.{Copies, Examines, IsIgnored, behind, place_of}
 use Rattle.bk_compact.specs.JobSteps.{CopiesEntry, IsAhead, IsCopying, IsEntry}
 use Rattle.bk_compact.proofs.Stored.{kept_backed, kept_held}
 use Rattle.bk_compact.proofs.Stored.{named_ahead, behind_is}
@@ -252,10 +252,10 @@ examined_copied s kept job is found ahead t mid after copied moved =
     )
 
 pub examined_past : (s : State) → SatisfiesInvariant s → (job : Job) → IsCopying s job → (found : Found) → IsAhead s job found → (t : State) (mid after : Job)
-    → ¬ (finite.get s.index found.key ≡ Some (place_of job found)) → t ≡ s → mid ≡ job → after ≡ record mid { at = behind found }
+    → IsIgnored s job found → t ≡ s → mid ≡ job → after ≡ record mid { at = behind found }
     → Examines s job found false t after × IsCopying t after
-examined_past s kept job is found ahead t mid after unsent same mid_is moved =
+examined_past s kept job is found ahead t mid after ignored same mid_is moved =
     let job_is : after ≡ record job { at = behind found } = moved ∙ ap (λ (j : Job). record j { at = behind found }) mid_is in (
-      (unsent, same, job_is),
-      subst (λ (u : State). IsCopying u after) (sym same) (subst (IsCopying s) (sym job_is) (passed_keeps s kept job is found ahead unsent)),
+      (ignored, same, job_is),
+      subst (λ (u : State). IsCopying u after) (sym same) (subst (IsCopying s) (sym job_is) (passed_keeps s kept job is found ahead ignored.unsent)),
     )

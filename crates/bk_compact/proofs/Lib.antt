@@ -1,9 +1,10 @@
 mod Positions
 mod Stored
 mod CopyWriter
+mod Lost
 mod Copied
 mod Ended
-mod Chosen
+pub mod Chosen
 mod Begun
 mod Finished
 mod Examined

@@ -1,9 +1,11 @@
 -- Transitions of a compaction: begin, copy, end of copying, switch, finish, give up. Read
 -- `BeginTransition`, `CopyTransition`, `EndCopyTransition`, `SwitchTransition` and
 -- `FinishTransition` first.
-use Rattle.std.specs.Prelude.{◌≡◌, ◌⊎◌, ◌↔◌, ℕ, ◌+◌, ◌-◌, ◌<◌, ◌≤◌, Bool, true, false, if◌then◌else◌, IsTrue, List, [], ◌∷◌, length}
+use Rattle.std.specs.Prelude.{◌≡◌, ◌⊎◌, ◌↔◌, ℕ, ◌+◌, ◌-◌, ◌<◌, ◌≤◌, Bool, true, false, if◌then◌else◌, IsTrue, nat_eq, List, [], ◌∷◌, length}
 use Rattle.std.specs.Prelude.{take, drop, Contains, Option, Some, None, IsSome, Result, Ok, Err, IsErrOf}
+use Rattle.std.specs.List.{list_any}
 use Rattle.std.specs.FinMap as finite
+use Rattle.bk_record.specs.Key.{EntryKey}
 use Rattle.bk_record.specs.Location.{Place}
 use Rattle.bk_record.specs.Record.{key_of}
 use Rattle.bk_record.specs.Keyed.{log_count}
@@ -13,6 +15,8 @@ use Rattle.bk_log.specs.declared.fault.LogFault.TheVariants as log_faults
 use Rattle.bk_store.specs.Entries.{HasEntry}
 use Rattle.bk_store.specs.Logs.{View, last_view, open_parts}
 use Rattle.bk_store.specs.State.{State}
+use Rattle.bk_store.specs.Contents.{holds}
+use Rattle.bk_store.specs.Transitions.{is_dead}
 use Rattle.bk_store.specs.Jobs.{Job, new_job, with_move}
 use Rattle.bk_store.specs.JobInvariant.{entries_from}
 use Rattle.bk_store.specs.CompactionPrimitives.{IsLeastUsed, RelocateTransition}
@@ -73,6 +77,20 @@ abbrev pub threshold_of : Settings → Kind → ℕ
 threshold_of settings Minor = settings.minor
 threshold_of settings Major = settings.major
 
+-- whether the log is in the list
+abbrev pub is_among : List ℕ → ℕ → Bool
+is_among logs id = list_any (λ log. nat_eq log id) logs
+
+-- the log is a candidate, and not passed over
+pub record MayCompact (s : State) (passed : List ℕ) (id : ℕ) : Type 0 where
+  pub candidate : IsCandidate s id
+  pub kept : is_among passed id ≡ false
+
+-- the choice among the candidates that are not passed over
+abbrev pub ChoosesBut : State → List ℕ → ℕ → Option ℕ → Type 0
+ChoosesBut s passed threshold chosen =
+    (allowed : List ℕ) × ((id : ℕ) → Contains allowed id ↔ MayCompact s passed id) × IsLeastUsed s threshold allowed chosen
+
 -- the choice among all candidates
 abbrev pub Chooses : State → ℕ → Option ℕ → Type 0
 Chooses s threshold chosen = (allowed : List ℕ) × ((id : ℕ) → Contains allowed id ↔ IsCandidate s id) × IsLeastUsed s threshold allowed chosen
@@ -82,6 +100,23 @@ pub record IsChosen (s : State) (kind : Kind) (log : ℕ) : Type 0 where
   pub none : s.job ≡ None
   pub candidate : IsCandidate s log
   pub choice : IsTrue s.honest → Chooses s (threshold_of s.settings kind) (Some log)
+
+-- no compaction is running, and on an honest disk this log is the choice among those that are not
+-- passed over
+pub record IsChosenBut (s : State) (kind : Kind) (passed : List ℕ) (log : ℕ) : Type 0 where
+  pub none : s.job ≡ None
+  pub may : MayCompact s passed log
+  pub choice : IsTrue s.honest → ChoosesBut s passed (threshold_of s.settings kind) (Some log)
+
+-- A compaction begins: a source log is chosen that is not passed over, and the target log is created.
+abbrev pub BeginButTransition : State → Kind → List ℕ → Result BeginAnswer StepFault → State → Type 0
+BeginButTransition s kind passed (Ok begins.JobRunning) t = IsSome s.job × (t ≡ s)
+BeginButTransition s kind passed (Ok begins.NothingToDo) t =
+    (s.job ≡ None) × (IsTrue s.honest → ChoosesBut s passed (threshold_of s.settings kind) None) × (t ≡ s)
+BeginButTransition s kind passed (Ok (begins.Chosen log)) t = IsChosenBut s kind passed log
+    × ((copy : ℕ) × ((mid : State) × CreateLogTransition s Copying (Ok copy) mid × (t ≡ with_job mid (Some (new_job log copy)))))
+BeginButTransition s kind passed (Err fault) t = ((log : ℕ) × IsChosenBut s kind passed log)
+    × ((cause : MakeFault) × (fault ≡ step_fault_of_make cause) × CreateLogTransition s Copying (Err cause) t)
 
 -- A compaction begins: a source log is chosen and the target log is created.
 abbrev pub BeginTransition : State → Kind → Result BeginAnswer StepFault → State → Type 0
@@ -112,12 +147,23 @@ pub record Copies (s : State) (job : Job) (found : Found) (payload : List ℕ) (
   pub stands : IsTrue s.honest → HasEntry (open_parts s.logs) (place_of job found) found.key payload
   pub put : AppendRecordTransition s job.copy payload result t
 
+-- An entry is lost: its ledger is live, and neither the index nor a write cache has its key. On an
+-- honest disk there is none.
+pub record IsLost (s : State) (key : EntryKey) : Type 0 where
+  pub live : is_dead s key.ledger ≡ false
+  pub missing : holds s key ≡ false
+
+-- The index does not point to the entry that was found, and it is not lost.
+pub record IsIgnored (s : State) (job : Job) (found : Found) : Type 0 where
+  pub unsent : ¬ (finite.get s.index found.key ≡ Some (place_of job found))
+  pub kept : ¬ (IsLost s found.key)
+
 -- An entry is examined: it is copied and its relocation noted, or it is ignored because the index
 -- does not point to it. The position of the job moves past it.
 abbrev pub Examines : State → Job → Found → Bool → State → Job → Type 0
 Examines s job found true t after = (payload : List ℕ) × ((to_place : Place) × Copies s job found payload (Ok to_place) t
     × (after ≡ with_move (record job { at = behind found }) (record { key = found.key; from = place_of job found; to = to_place })))
-Examines s job found false t after = (¬ (finite.get s.index found.key ≡ Some (place_of job found))) × (t ≡ s)
+Examines s job found false t after = IsIgnored s job found × (t ≡ s)
     × (after ≡ record job { at = behind found })
 
 -- these entries are examined in order, and `copied` of them are copied

@@ -24,7 +24,7 @@ use Rattle.bk_compact.specs.declared.entries.Stopped.{Stopped}
 use Rattle.bk_compact.specs.declared.scanning.Unread.{Unread}
 use Rattle.bk_compact.specs.declared.scanning.Unread.TheVariants as unreads
 use Rattle.bk_compact.specs.declared.entries.Stopped.TheVariants as stops
-use Rattle.bk_compact.specs.Compacting.{AreFound, Copies, Examines, HasUnsoundSource, IsCandidate, IsFound, Steps, TakesMoves, behind, entries_left, place_of}
+use Rattle.bk_compact.specs.Compacting.{AreFound, Copies, Examines, HasUnsoundSource, IsFound, MayCompact, Steps, TakesMoves, behind, entries_left, place_of}
 
 -- the store has no job, and this one can be given back to it
 pub record IsTakenOut (s : State) (job : Job) : Type 0 where
@@ -162,9 +162,10 @@ IsBetter s threshold None log false = (chosen : Option ℕ) × IsLeastUsed s thr
 IsBetter s threshold (Some best) log true = IsLeastUsed s threshold (best ∷ log ∷ []) (Some log)
 IsBetter s threshold (Some best) log false = (chosen : Option ℕ) × IsLeastUsed s threshold (best ∷ log ∷ []) chosen × (¬ (chosen ≡ Some log))
 
--- all logs below this id were considered, and this one is the choice so far
-pub record IsChoosing (s : State) (threshold from : ℕ) (best : Option ℕ) : Type 0 where
+-- all logs below this id that are not passed over were considered, and this one is the choice so
+-- far
+pub record IsChoosing (s : State) (passed : List ℕ) (threshold from : ℕ) (best : Option ℕ) : Type 0 where
   pub allowed : List ℕ
-  pub all : (id : ℕ) → Contains allowed id ↔ (IsCandidate s id × (id < from))
+  pub all : (id : ℕ) → Contains allowed id ↔ (MayCompact s passed id × (id < from))
   pub choice : IsTrue s.honest → IsLeastUsed s threshold allowed best
-  pub candidate : IfSome best (λ id. IsCandidate s id × (id < from))
+  pub candidate : IfSome best (λ id. MayCompact s passed id × (id < from))

@@ -6,7 +6,7 @@ ghost use Rattle.bk_store.specs.Logs.{IsNextHeld};
 ghost use Rattle.bk_store.specs.Contents.{SameContents};
 ghost use Rattle.bk_store.specs.Frame.{FrameUnchanged};
 ghost use Rattle.bk_store.specs.Faults.{ReportsDeviceFault};
-ghost use Rattle.bk_compact.specs.Compacting.{BeginTransition, Chooses, IsCandidate, threshold_of};
+ghost use Rattle.bk_compact.specs.Compacting.{BeginTransition, BeginButTransition, ChoosesBut, IsCandidate, MayCompact, threshold_of};
 ghost use Rattle.bk_compact.specs.JobSteps.{IsBetter, IsChoosing};
 
 use crate::{BeginAnswer, Kind};
@@ -36,11 +36,30 @@ pub fn begin<D: LogDisk>(store: &mut Store<D>, kind: Kind) -> Result<BeginAnswer
     ensures honest { store.new.honest ≡ store.old.honest }
     ensures contents { IsTrue store.old.honest → SameContents store.old store.new }
 {
+    begin_but(store, kind, &[])
+}
+
+/// Begins a compaction as `begin` does, but of no log that is in `passed`.
+///
+/// # Errors
+///
+/// Those of `begin`.
+pub fn begin_but<D: LogDisk>(
+    store: &mut Store<D>,
+    kind: Kind,
+    passed: &[u32],
+) -> Result<BeginAnswer, StepFault>
+    ensures transition { BeginButTransition store.old kind passed.now result store.new }
+    ensures frame { FrameUnchanged store.old store.new }
+    ensures cause { ReportsDeviceFault store.old result store.new }
+    ensures honest { store.new.honest ≡ store.old.honest }
+    ensures contents { IsTrue store.old.honest → SameContents store.old store.new }
+{
     store.reveal_invariant();
     if store.job().is_some() {
         return Ok(BeginAnswer::JobRunning);
     }
-    let Some(source) = chosen(store, threshold(store, kind)) else {
+    let Some(source) = chosen(store, passed, threshold(store, kind)) else {
         return Ok(BeginAnswer::NothingToDo);
     };
     let copy = store.create_log(LogState::Copying)?;
@@ -62,32 +81,45 @@ fn threshold<D: LogDisk>(store: &Store<D>, kind: Kind) -> u32
 
 /// Returns the log to compact, if there is one. Walks over all logs by rising id, and does not
 /// allocate.
-fn chosen<D: LogDisk>(store: &Store<D>, threshold: u32) -> Option<u32>
-    ensures candidate { IfSome result (IsCandidate store.now) }
-    ensures choice { IsTrue store.now.honest → Chooses store.now threshold result }
+fn chosen<D: LogDisk>(store: &Store<D>, passed: &[u32], threshold: u32) -> Option<u32>
+    ensures candidate { IfSome result (MayCompact store.now passed.now) }
+    ensures choice { IsTrue store.now.honest → ChoosesBut store.now passed.now threshold result }
 {
     let mut best = None;
     let mut from = 0;
     while let Some(log) = store.log_from(from) {
-        best = best_of(store, threshold, best, log);
+        best = best_of(store, passed, threshold, best, log);
         from = log + 1;
     }
     best
 }
 
 /// Returns the better one of the best log so far and the next log.
-fn best_of<D: LogDisk>(store: &Store<D>, threshold: u32, best: Option<u32>, log: u32) -> Option<u32>
+fn best_of<D: LogDisk>(
+    store: &Store<D>,
+    passed: &[u32],
+    threshold: u32,
+    best: Option<u32>,
+    log: u32,
+) -> Option<u32>
     requires held { IsSome (finite.get store.now.logs log) }
-    requires best { IfSome best (IsCandidate store.now) }
-    ensures { (from : ℕ) → IsNextHeld store.now.logs from (Some log) → IsChoosing store.now threshold from best
-        → IsChoosing store.now threshold (log + 1) result }
+    requires best { IfSome best (MayCompact store.now passed.now) }
+    ensures { (from : ℕ) → IsNextHeld store.now.logs from (Some log) → IsChoosing store.now passed.now threshold from best
+        → IsChoosing store.now passed.now threshold (log + 1) result }
 {
     // The comparison is first because it is cheap: few logs are below the threshold.
-    if is_better(store, threshold, best, log) && is_candidate(store, log) {
+    if is_better(store, threshold, best, log) && may_compact(store, passed, log) {
         Some(log)
     } else {
         best
     }
+}
+
+/// Returns whether the log is a candidate that is not passed over.
+fn may_compact<D: LogDisk>(store: &Store<D>, passed: &[u32], log: u32) -> bool
+    ensures { IsTrue result ↔ MayCompact store.now passed.now log }
+{
+    is_candidate(store, log) && !passed.contains(&log)
 }
 
 /// Returns whether the log is Readable and the index points into it.

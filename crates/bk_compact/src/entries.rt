@@ -1,6 +1,6 @@
 //! Examines and copies the entries of a source log one by one.
 
-ghost use Rattle.std.specs.Prelude.{◌≡◌, ◌+◌, ◌<◌, ◌≤◌, ◌^◌, IsTrue, Ok, Some, length};
+ghost use Rattle.std.specs.Prelude.{◌≡◌, ◌↔◌, ◌+◌, ◌<◌, ◌≤◌, ◌^◌, IsTrue, Ok, Some, length};
 ghost use Rattle.std.specs.FinMap as finite;
 ghost use Rattle.bk_log.specs.Places.{HasEntryAt};
 ghost use Rattle.bk_log.specs.Writing.{Writing};
@@ -9,9 +9,10 @@ ghost use Rattle.bk_store.specs.Appending.{next_place};
 ghost use Rattle.bk_store.specs.Logs.{last_view, open_parts, view_of};
 ghost use Rattle.bk_store.specs.declared.log.LogState.TheVariants.{Copying as CopyingState, Readable as ReadableState};
 ghost use Rattle.bk_store.specs.Contents.{PreservesContents};
-ghost use Rattle.bk_compact.specs.Compacting.{behind, place_of};
+ghost use Rattle.bk_compact.specs.Compacting.{IsLost, behind, place_of};
 ghost use Rattle.bk_compact.specs.JobSteps.{CopiesEntry, CopiesNext, ExaminesOne, IsAhead, IsCopying, IsEntry, IsScanOf, stop_after};
 
+use crate::records::RecordView;
 use crate::scanning::{Unread, is_end, scan_from};
 use bk_disk::LogDisk;
 use bk_index::Near;
@@ -61,7 +62,8 @@ pub(crate) fn copy_entries<D: LogDisk>(
     ensures frame { PreservesContents store.old store.new }
 {
     store.reveal_invariant();
-    let Some(mut scanner) = scan_from(view, store.alloc(), job.at()) else {
+    let records = RecordView::new(view);
+    let Some(mut scanner) = scan_from(&records, store.alloc(), job.at()) else {
         return Err(odd(store, job));
     };
     let mut near = Near::start();
@@ -105,11 +107,12 @@ pub(crate) fn copy_entries<D: LogDisk>(
 }
 
 /// Copies an entry of the source log if the index points to it, and returns whether it did. Moves
-/// the position of the job past the entry.
+/// the position of the job past the entry. An entry that is lost is `Odd`: the index was made from
+/// other records than those of the log.
 fn examine<D: LogDisk>(
     store: &mut Store<D>,
     view: &D::View,
-    scanner: &Scanner<'_, D::View>,
+    scanner: &Scanner<'_, RecordView<'_, D::View>>,
     near: &mut Near,
     job: &mut Job,
     found: &Found,
@@ -132,9 +135,18 @@ fn examine<D: LogDisk>(
     let named = is_sent(store, near, found.key, from);
     if named {
         copy_entry(store, view, scanner, job, found, from)?;
+    } else if is_lost(store, found.key) {
+        return Err(odd(store, job));
     }
     job.go_to(behind);
     Ok(named)
+}
+
+/// Returns whether the ledger of a key is live, and the store has no entry of the key.
+pub(crate) fn is_lost<D: LogDisk>(store: &Store<D>, key: Key) -> bool
+    ensures { IsTrue result ↔ IsLost store.now key }
+{
+    !store.is_dead(key.ledger()) && !store.holds(&key)
 }
 
 /// Returns whether the index points the key to this place. Entries are mostly in key order, so each
@@ -154,7 +166,7 @@ fn is_sent<D: LogDisk>(store: &Store<D>, near: &mut Near, key: Key, place: Locat
 fn copy_entry<D: LogDisk>(
     store: &mut Store<D>,
     view: &D::View,
-    scanner: &Scanner<'_, D::View>,
+    scanner: &Scanner<'_, RecordView<'_, D::View>>,
     job: &mut Job,
     found: &Found,
     from: Location,

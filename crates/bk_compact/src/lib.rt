@@ -11,15 +11,22 @@ mod ending;
 mod entries;
 mod finishing;
 mod front;
+mod judging;
+mod passed;
+mod records;
 mod scanning;
+mod sums;
 mod switching;
 
 pub use answer::{
     BeginAnswer, CopyAnswer, EndAnswer, FinishAnswer, GiveUpAnswer, Kind, SwitchAnswer,
 };
-pub use beginning::begin;
+pub use beginning::{begin, begin_but};
 pub use bk_store::StepFault as CompactFault;
 pub use copying::copy;
 pub use ending::end_copy;
 pub use finishing::{finish, give_up};
+pub use judging::{compaction_cause, pass_damaged, removal_cause};
+pub use passed::{PassCause, PassedLog, PassedLogs};
+pub use sums::{differs_from_map, is_all_dead, loses_entry, may_differ};
 pub use switching::switch;

@@ -1,19 +1,22 @@
 //! A compaction of a disk, with its sums.
 
-ghost use Rattle.std.specs.Prelude.{◌≡◌, IfOk, IfSome, IsTrue};
+ghost use Rattle.std.specs.Prelude.{◌≡◌, [], IfOk, IfSome, IsTrue};
 ghost use Rattle.bk_store.specs.Transitions.{valid_ledgers};
 ghost use Rattle.bk_compact_disk.specs.Compacted.{EndsCompacted, PlansCompaction, settings_below};
 ghost use Rattle.bk_compact_disk.specs.Sizes.{AreLengths, IsSizeOf};
 ghost use Rattle.bk_offline_gc.specs.Sweeping.{SameFileContents};
 ghost use Rattle.bk_inspect.specs.Reading.{OnlyReads};
 
+use crate::passed::tell_passed;
 use crate::progress::Progress;
 use crate::summary::{Size, Summary, write_summary};
 use bk_cli::DEFAULTS;
 use bk_disk::{DiskFault, LogDisk};
 use bk_inspect::Form;
 use bk_messages::{CommandFault, end_early};
-use bk_offline_gc::{Done, Kind, Planned, Settings, Store, SweepFault, plan, sweep_disk};
+use bk_offline_gc::{
+    Done, Kind, PassedLogs, Planned, Settings, Store, SweepFault, plan, sweep_disk,
+};
 use std::alloc::Global;
 use std::collections::BTreeMap;
 use std::io::Write;
@@ -22,8 +25,9 @@ use std::io::Write;
 /// index entry points into, and writes the summary. `dead` lists the ledgers deleted earlier: their
 /// entries are not copied. A line on the terminal shows the progress.
 ///
-/// Returns the disk as it is then if the status is 0. `None` if it ends early, with status 1 and
-/// `fault TEXT` on the error stream; without it if nobody reads the output any more.
+/// Returns the disk as it is then if the status is 0. `None` if logs were passed over, with status 1
+/// and a line for each on the error stream, or if it ends early, with `fault TEXT`; without it if
+/// nobody reads the output any more.
 pub fn compact_disk<D: LogDisk, W: Write, E: Write>(
     rt: &HostRuntime,
     form: Form,
@@ -39,8 +43,17 @@ pub fn compact_disk<D: LogDisk, W: Write, E: Write>(
     ensures done { IsTrue (D.honest disk)
         → IfSome result (λ left. EndsCompacted below (valid_ledgers dead.now) (D.files left)) }
 {
-    match compact_and_show(rt, form, disk, below, dead, writer) {
-        Ok(left) => Some(left),
+    let mut passed = PassedLogs::new(rt.alloc());
+    let done = compact_and_show(rt, form, disk, below, dead, &mut passed, writer);
+    tell_passed(rt.alloc(), form, &passed, errors);
+    match done {
+        Ok(left) => {
+            if passed.is_empty() {
+                Some(left)
+            } else {
+                None
+            }
+        }
         Err(fault) => {
             end_early(rt.alloc(), form, &fault, &None, errors);
             None
@@ -104,25 +117,27 @@ fn size_on<D: LogDisk>(alloc: Global, disk: &mut D) -> Result<Size, CommandFault
     Ok(size_of(&lengths_of(alloc, disk)?))
 }
 
-/// Compacts the logs of a disk, writes the summary and flushes. Returns the disk.
+/// Compacts the logs of a disk, writes the summary and flushes. Returns the disk. Adds the logs that
+/// were passed over to `passed`.
 pub fn compact_and_show<D: LogDisk, W: Write>(
     rt: &HostRuntime,
     form: Form,
     disk: D,
     below: u32,
     dead: &[u64],
+    passed: &mut PassedLogs,
     writer: &mut W,
 ) -> Result<D, CommandFault>
     ensures honest { IfOk result (λ left. D.honest left ≡ D.honest disk) }
     ensures same { IsTrue (D.honest disk)
         → IfOk result (λ left. SameFileContents (valid_ledgers dead.now) (D.files disk) (D.files left)) }
-    ensures done { IsTrue (D.honest disk)
+    ensures done { IsTrue (D.honest disk) → passed.new ≡ []
         → IfOk result (λ left. EndsCompacted below (valid_ledgers dead.now) (D.files left)) }
 {
     let alloc = rt.alloc();
     let mut disk = disk;
     let before = size_on(alloc, &mut disk)?;
-    let (mut disk, moved) = sweep_on(rt, disk, below, dead)?;
+    let (mut disk, moved) = sweep_on(rt, disk, below, dead, passed)?;
     let after = size_on(alloc, &mut disk)?;
     let summary = Summary {
         before,
@@ -140,16 +155,25 @@ fn sweep_on<D: LogDisk>(
     disk: D,
     below: u32,
     dead: &[u64],
+    passed: &mut PassedLogs,
 ) -> Result<(D, u64), CommandFault>
     ensures honest { IfOk result (λ left. D.honest left.0 ≡ D.honest disk) }
     ensures same { IsTrue (D.honest disk)
         → IfOk result (λ left. SameFileContents (valid_ledgers dead.now) (D.files disk) (D.files left.0)) }
-    ensures done { IsTrue (D.honest disk)
+    ensures done { IsTrue (D.honest disk) → passed.new ≡ []
         → IfOk result (λ left. EndsCompacted below (valid_ledgers dead.now) (D.files left.0)) }
 {
     let settings = settings_below(below);
     let mut progress = Progress::new(rt);
-    let done = sweep_disk(rt.alloc(), disk, settings, dead, Kind::Major, &mut progress)?;
+    let done = sweep_disk(
+        rt.alloc(),
+        disk,
+        settings,
+        dead,
+        Kind::Major,
+        passed,
+        &mut progress,
+    )?;
     let Done { store, swept } = done;
     store.reveal_invariant();
     match store.into_disk() {

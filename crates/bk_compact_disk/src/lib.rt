@@ -2,8 +2,10 @@
 #![tactic(auto)]
 
 mod compacting;
+mod passed;
 mod progress;
 mod summary;
 
 pub use compacting::{compact_and_show, compact_disk, lengths_of, plan_disk, size_of};
+pub use passed::tell_passed;
 pub use summary::{Size, Summary, write_summary};

@@ -7,13 +7,16 @@ use crate::index::index_in;
 use crate::kept::{kept_logs, tell_kept};
 use crate::planned::show_dry;
 use crate::rows::EmptyRow;
-use bk_compact_disk::{Size, Summary, compact_and_show, lengths_of, write_summary};
+use bk_compact_disk::{
+    Size, Summary, compact_and_show, lengths_of, tell_passed, write_summary,
+};
 use bk_deleted::{Deleted, deleted_in};
 use bk_disk::{DirDisk, FaultWatch};
 use bk_folder::{Book, FolderDisk, Ignored, OpeningDisk};
 use bk_hint_folder::FolderHints;
 use bk_inspect::{Form, Hints, unlisted};
 use bk_messages::{CommandFault, FailedCalls, end_early, reason_of, write_row};
+use bk_offline_gc::PassedLogs;
 use std::alloc::Global;
 use std::collections::BTreeMap;
 use std::io::Write;
@@ -33,7 +36,8 @@ pub fn run_compact<W: Write, E: Write>(
 {
     let mut watch = None;
     match compact_folder(rt, form, path, ask, &mut watch, writer, errors) {
-        Ok(()) => 0,
+        Ok(true) => 0,
+        Ok(false) => 1,
         Err(fault) => {
             let call = reason_of(rt.alloc(), &fault, &watch);
             end_early(rt.alloc(), form, &fault, &call, errors);
@@ -43,7 +47,7 @@ pub fn run_compact<W: Write, E: Write>(
 }
 
 /// Compacts the directory at a path, or shows what that would do. Sets `watch` to the watch of its
-/// disk.
+/// disk. Returns whether no log was passed over.
 fn compact_folder<W: Write, E: Write>(
     rt: &HostRuntime,
     form: Form,
@@ -52,16 +56,21 @@ fn compact_folder<W: Write, E: Write>(
     watch: &mut Option<FaultWatch>,
     writer: &mut W,
     errors: &mut E,
-) -> Result<(), CommandFault> {
+) -> Result<bool, CommandFault> {
     let Some(work) = find_work(rt, form, path, ask, watch, writer, errors)? else {
-        return Ok(());
+        return Ok(true);
     };
-    let Work { disk, dead } = work;
+    let Work { disk, dead, failed } = work;
     let notes = disk.notes(rt.alloc())?;
-    let done = compact_and_show(rt, form, disk, ask.below, &dead, writer);
+    let mut passed = PassedLogs::new(rt.alloc());
+    let done = compact_and_show(rt, form, disk, ask.below, &dead, &mut passed, writer);
     notes.tell_unused(form, errors);
+    if !passed.is_empty() {
+        tell_passed(rt.alloc(), form, &passed, errors);
+        failed.tell(form, errors);
+    }
     match done {
-        Ok(_) => Ok(()),
+        Ok(_) => Ok(passed.is_empty()),
         Err(fault) => Err(fault),
     }
 }
@@ -71,6 +80,7 @@ fn compact_folder<W: Write, E: Write>(
 struct Work {
     disk: OpeningDisk,
     dead: Vec<u64>,
+    failed: FailedCalls,
 }
 
 /// Opens a directory to be compacted as its one writer, and sets `watch` to the watch of its disk.
@@ -151,8 +161,13 @@ fn work_of<E: Write>(
     let dead = book.delete_all(named)?.deleted;
     let kept = kept_logs(rt, path, &lengths)?;
     tell_kept(rt.alloc(), form, &kept, &lengths, errors)?;
+    let told = failed.share()?;
     let disk = OpeningDisk::keeping(rt, disk, failed, kept);
-    Ok(Work { disk, dead })
+    Ok(Work {
+        disk,
+        dead,
+        failed: told,
+    })
 }
 
 /// A directory that is open to be compacted.

@@ -1,6 +1,6 @@
 -- Copying comes to an end: each call that copies moves the job on, on an honest disk.
 use Rattle.std.proofs.Common.{◌≡◌, inl, inr, ℕ, zero, suc, ◌+◌, ◌-◌, ◌<◌, ◌≤◌, Bool, true, false, IsTrue, List, [], ◌∷◌, length, take, not}
-use Rattle.std.proofs.Common.{Some, None, Ok, refl, sym, ap, subst, ◌∙◌, arith}
+use Rattle.std.proofs.Common.{Some, None, Result, Ok, Err, refl, sym, ap, subst, ◌∙◌, arith}
 use Rattle.std.proofs.lemmas.Option.{same_Some}
 use Rattle.bk_record.specs.Files.{In}
 use Rattle.bk_record.specs.Record.{is_foreign}
@@ -10,13 +10,18 @@ use Rattle.bk_record.proofs.Orders.{pieces_behind}
 use Rattle.bk_disk.specs.Disk.{view_end}
 use Rattle.bk_log.specs.Ranges.{entries_in, part}
 use Rattle.bk_log.specs.declared.found.Found.{Found}
+use Rattle.bk_log.specs.declared.fault.LogFault.{LogFault}
+use Rattle.bk_log.specs.declared.fault.LogFault.TheVariants as log_faults
 use Rattle.bk_store.specs.State.{State}
 use Rattle.bk_store.specs.Jobs.{Job, new_job}
 use Rattle.bk_store.specs.JobInvariant.{entries_from}
 use Rattle.bk_store.specs.declared.job.Phase.TheVariants.{Copy, Switch}
-use Rattle.bk_compact.specs.Compacting.{AreFound, BeginTransition, CopyTransition, Examines, ExaminesAll, entries_left, with_job}
+use Rattle.bk_compact.specs.Compacting.{AbortsCopying, AreFound, BeginButTransition, Copies as CopiesFound, CopyTransition, Examines, ExaminesAll, Steps, entries_left, with_job}
 use Rattle.bk_compact.specs.declared.answer.BeginAnswer.TheVariants as begins
+use Rattle.bk_compact.specs.declared.answer.CopyAnswer.{CopyAnswer}
 use Rattle.bk_compact.specs.declared.answer.CopyAnswer.TheVariants as copies
+use Rattle.bk_store.specs.declared.step_fault.StepFault.{StepFault}
+use Rattle.bk_store.specs.declared.step_fault.StepFault.TheVariants as step_faults
 use Rattle.bk_compact.specs.declared.answer.Kind.{Kind}
 use Rattle.bk_offline_gc.proofs.Removed.{frame_then, frame_none}
 use Rattle.bk_offline_gc.specs.Stages.{Copies, HasCopied, HasCopiedTo, HasNewLog}
@@ -24,7 +29,7 @@ use Rattle.bk_offline_gc.specs.Sweeping.{SweepFrame}
 
 -- ---- the begin
 
-module _ (s t : State) (kind : Kind) (log : ℕ) (turn : BeginTransition s kind (Ok (begins.Chosen log)) t) where
+module _ (s t : State) (kind : Kind) (passed : List ℕ) (log : ℕ) (turn : BeginButTransition s kind passed (Ok (begins.Chosen log)) t) where
   pub begun_copies : Copies t
   begun_copies = record {
     job = new_job log turn.1.0;
@@ -192,14 +197,47 @@ copying_moves s t u at count n so_far turn some job runs stays honest =
     omega (arith, on, here, stays, place)
 
 -- copying is done
-pub copying_ends : (s t u : State) (at n : ℕ) (so_far : HasCopiedTo s at t) → CopyTransition t n (Ok copies.AtEnd) u
-    → HasCopied u × (u.next ≡ s.next)
+pub copying_ends : (s t u : State) (at n : ℕ) (so_far : HasCopiedTo s at t) → CopyTransition t n (Ok copies.AtEnd) u → HasCopied u
 copying_ends s t u at n so_far turn =
-    let here : turn.0 ≡ so_far.copies.job = same_job t so_far.copies.job turn.0 so_far.copies.running.runs turn.1.runs in (
-      subst HasCopied (sym turn.3)
-          (record { copies = so_far.copies; all = λ honest. subst (λ (j : Job). entries_left t j ≡ []) here (turn.2 honest) }),
-      ap (λ (x : State). x.next) turn.3 ∙ so_far.next,
-    )
+    let here : turn.0 ≡ so_far.copies.job = same_job t so_far.copies.job turn.0 so_far.copies.running.runs turn.1.runs in
+    subst HasCopied (sym turn.3)
+    (record { copies = so_far.copies; all = λ honest. subst (λ (j : Job). entries_left t j ≡ []) here (turn.2 honest) })
+
+-- ---- the next id, whatever the answer
+
+steps_next : (s t : State) (job after : Job) (n copied : ℕ) → Steps s job n copied t after → t.next ≡ s.next
+steps_next s t job after n copied steps = (examined_job (with_job s None) job steps.founds copied t after steps.examined).next
+
+put_next : (s t : State) (job : Job) (found : Found) (payload : List ℕ) (fault : LogFault) → CopiesFound s job found payload (Err fault) t → t.next ≡ s.next
+put_next s t job found payload log_faults.Memory copied = ap (λ (x : State). x.next) copied.put.1
+put_next s t job found payload log_faults.Disk copied = ap (λ (x : State). x.next) copied.put.3
+put_next s t job found payload log_faults.Odd copied = ap (λ (x : State). x.next) copied.put.1.2
+put_next s t job found payload log_faults.Failed copied = absurd copied.put
+
+aborted_next : (s t : State) (job : Job) (n : ℕ) (fault : StepFault) → AbortsCopying s job n fault t → t.next ≡ s.next
+aborted_next s t job n (step_faults.Memory done) turn =
+    ap (λ (x : State). x.next) turn.1.2.left ∙ steps_next s turn.0 job turn.1.0 n done turn.1.1
+aborted_next s t job n step_faults.Disk turn = elim turn.1.1.2 [
+  | inl unread ↦ ap (λ (x : State). x.next) unread.1 ∙ steps_next s turn.1.0 job turn.1.1.0 n turn.0 turn.1.1.1
+  | inr unput ↦
+      put_next turn.1.0 t turn.1.1.0 unput.0 unput.1.0 log_faults.Disk unput.1.1 ∙ steps_next s turn.1.0 job turn.1.1.0 n turn.0 turn.1.1.1
+]
+aborted_next s t job n step_faults.Odd turn = elim turn.1.1.1.2 [
+  | inl set ↦ ap (λ (x : State). x.next) set.2 ∙ steps_next s turn.1.1.0 job turn.1.1.1.0 n turn.1.0 turn.1.1.1.1
+  | inr unput ↦
+      put_next turn.1.1.0 t turn.1.1.1.0 unput.0 unput.1.0 log_faults.Odd unput.1.1
+      ∙ steps_next s turn.1.1.0 job turn.1.1.1.0 n turn.1.0 turn.1.1.1.1
+]
+aborted_next s t job n step_faults.LogsFull turn = absurd turn
+aborted_next s t job n step_faults.NoMoreIds turn = absurd turn
+
+pub copy_next : (s t : State) (n : ℕ) (result : Result CopyAnswer StepFault) → CopyTransition s n result t → t.next ≡ s.next
+copy_next s t n (Ok copies.NoJob) turn = ap (λ (x : State). x.next) turn.1
+copy_next s t n (Ok copies.NotNow) turn = ap (λ (x : State). x.next) turn.1
+copy_next s t n (Ok copies.AtEnd) turn = ap (λ (x : State). x.next) turn.3
+copy_next s t n (Ok (copies.Copied count)) turn =
+    ap (λ (x : State). x.next) turn.2.1.3 ∙ steps_next s turn.2.0 turn.0 turn.2.1.0 n count turn.2.1.1.0
+copy_next s t n (Err fault) turn = aborted_next s t turn.0 n fault turn.2
 
 -- ---- answers that do not occur
 

@@ -1,5 +1,5 @@
 -- Frame conditions of consecutive steps, and the contents of files if caches are empty.
-use Rattle.std.proofs.Common.{◌≡◌, ℕ, Bool, List, Option, None, Ok, cond, IsTrue, sym, ap, subst, ◌∙◌}
+use Rattle.std.proofs.Common.{◌≡◌, ℕ, Bool, List, [], Option, None, Ok, cond, IsTrue, refl, sym, ap, subst, ◌∙◌}
 use Rattle.std.specs.Option.{option_or}
 use Rattle.std.specs.FinMap as finite
 use Rattle.std.specs.FinSet as set
@@ -13,10 +13,11 @@ use Rattle.bk_store.specs.Contents.{contents_at}
 use Rattle.bk_store.specs.Opening.{IsOpened}
 use Rattle.bk_store.specs.Transitions.{valid_ledgers}
 use Rattle.bk_store.specs.declared.settings.Settings.{Settings}
-use Rattle.bk_compact.specs.Compacting.{BeginTransition, Chooses, threshold_of}
+use Rattle.bk_compact.specs.Compacting.{BeginButTransition, ChoosesBut, threshold_of}
 use Rattle.bk_compact.specs.declared.answer.BeginAnswer.TheVariants as begins
 use Rattle.bk_compact.specs.declared.answer.Kind.{Kind}
-use Rattle.bk_offline_gc.specs.Sweeping.{SweepFrame, SameFileContents, live_at}
+use Rattle.bk_compact.proofs.Chosen.{chooses_all}
+use Rattle.bk_offline_gc.specs.Sweeping.{IsSwept, IsSweptBut, SweepFrame, SameFileContents, live_at}
 
 -- ---- empty caches
 
@@ -52,7 +53,15 @@ opened_means honest files settings dead s t is_honest same_honest opened left = 
 -- ---- the end of a sweep
 
 -- nothing qualifies for compaction
-pub nothing_left : (s t : State) (kind : Kind) → BeginTransition s kind (Ok begins.NothingToDo) t
-    → (t ≡ s) × (IsTrue t.honest → Chooses t (threshold_of t.settings kind) None)
-nothing_left s t kind turn =
-    (turn.2, subst (λ (x : State). IsTrue x.honest → Chooses x (threshold_of x.settings kind) None) (sym turn.2) turn.1)
+pub nothing_left : (s t : State) (kind : Kind) (passed : List ℕ) → BeginButTransition s kind passed (Ok begins.NothingToDo) t
+    → (t ≡ s) × (IsTrue t.honest → ChoosesBut t passed (threshold_of t.settings kind) None)
+nothing_left s t kind passed turn =
+    (turn.2, subst (λ (x : State). IsTrue x.honest → ChoosesBut x passed (threshold_of x.settings kind) None) (sym turn.2) turn.1)
+
+-- a store that is swept, where no log is passed over
+pub swept_all : (s : State) (kind : Kind) → IsSweptBut s kind [] → IsSwept s kind
+swept_all s kind swept = record {
+  idle = swept.idle;
+  none = λ honest. chooses_all s (threshold_of s.settings kind) None (swept.none honest);
+  left = λ log held there. swept.left log held refl there;
+}

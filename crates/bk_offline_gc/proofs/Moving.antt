@@ -1,17 +1,21 @@
 -- The end of a compaction: publishing, switching, finishing, giving up.
-use Rattle.std.proofs.Common.{◌≡◌, ℕ, Bool, true, false, IsTrue, List, [], ◌∷◌, length, take, drop}
-use Rattle.std.proofs.Common.{Some, None, Ok, refl, sym, ap, subst, ◌∙◌, arith}
+use Rattle.std.proofs.Common.{◌≡◌, inl, inr, ℕ, Bool, true, false, IsTrue, List, [], ◌∷◌, length, take, drop}
+use Rattle.std.proofs.Common.{Some, None, Result, Ok, Err, refl, sym, ap, subst, ◌∙◌, arith}
 use Rattle.std.proofs.lemmas.Bool.{false_from_ne_true}
 use Rattle.std.proofs.lemmas.List.{drop_all}
 use Rattle.std.proofs.lemmas.Option.{same_Some}
+use Rattle.bk_log.specs.declared.fault.LogFault.{LogFault}
+use Rattle.bk_log.specs.declared.fault.LogFault.TheVariants as log_faults
 use Rattle.bk_store.specs.State.{State}
+use Rattle.bk_store.specs.declared.step_fault.StepFault.{StepFault}
 use Rattle.bk_store.specs.Jobs.{Job}
 use Rattle.bk_store.specs.CompactionPrimitives.{RelocateTransition}
 use Rattle.bk_store.specs.declared.job.Move.{Move}
 use Rattle.bk_store.specs.declared.job.Phase.{Phase}
 use Rattle.bk_store.specs.declared.job.Phase.TheVariants.{Copy, Switch}
-use Rattle.bk_compact.specs.Compacting.{EndCopyTransition, FinishTransition, GiveUpTransition, GivesUp, IsRunning, IsUndisturbed, SwitchTransition, TakesMoves}
+use Rattle.bk_compact.specs.Compacting.{EndCopyTransition, FinishTransition, GiveUpTransition, GivesUp, IsRunning, IsUndisturbed, SealsCopy, ShowsCopy, SwitchTransition, TakesMoves}
 use Rattle.bk_compact.specs.Compacting.{entries_left, with_job}
+use Rattle.bk_compact.specs.declared.answer.EndAnswer.{EndAnswer}
 use Rattle.bk_compact.specs.declared.answer.EndAnswer.TheVariants as ends
 use Rattle.bk_compact.specs.declared.answer.FinishAnswer.{FinishAnswer}
 use Rattle.bk_compact.specs.declared.answer.FinishAnswer.TheVariants as finishes
@@ -38,18 +42,15 @@ copy_switch wrong = cc
 -- ---- publishing
 
 module _ (s t : State) (copied : HasCopied s) where
-  pub end_switches : (count : ℕ) → EndCopyTransition s (Ok (ends.Ended count)) t → CanSwitchAll t × (t.next ≡ s.next)
+  pub end_switches : (count : ℕ) → EndCopyTransition s (Ok (ends.Ended count)) t → CanSwitchAll t
   end_switches count turn =
       let job = copied.copies.job in
       let here : turn.0 ≡ job = same_job s job turn.0 copied.copies.running.runs turn.1.runs in
-      let shows = turn.3.1 in (
-        record {
-          job = record turn.0 { phase = Switch };
-          running = record { runs = ap (λ (x : State). x.job) turn.3.2; phase_is = refl };
-          kept = ap (λ (j : Job). j.rebuilt) here ∙ copied.copies.kept;
-        },
-        ap (λ (x : State). x.next) turn.3.2 ∙ ap (λ (x : State). x.next) shows.2.2.3 ∙ ap (λ (x : State). x.next) shows.1.sealed.left,
-      )
+      record {
+        job = record turn.0 { phase = Switch };
+        running = record { runs = ap (λ (x : State). x.job) turn.3.2; phase_is = refl };
+        kept = ap (λ (j : Job). j.rebuilt) here ∙ copied.copies.kept;
+      }
 
   pub end_all : EndCopyTransition s (Ok ends.NotAtEnd) t → s.honest ≡ false
   end_all turn = false_from_ne_true s.honest (λ honest.
@@ -62,6 +63,30 @@ module _ (s t : State) (copied : HasCopied s) where
 
   pub end_now : EndCopyTransition s (Ok ends.NotNow) t → ⊥
   end_now turn = copy_switch (one_phase s copied.copies.job turn.0.0 Copy Switch copied.copies.running turn.0.1)
+
+-- the next id, whatever the answer
+sealed_next : (s t : State) (job : Job) (result : Result (Unit {0}) LogFault) → SealsCopy s job result t → t.next ≡ s.next
+sealed_next s t job result seals = ap (λ (x : State). x.next) seals.sealed.left
+
+shown_next : (s t : State) (job : Job) (fault : LogFault) → ShowsCopy s job (Err fault) t → t.next ≡ s.next
+shown_next s t job log_faults.Memory shows = ap (λ (x : State). x.next) shows.2.1 ∙ sealed_next s shows.0 job (Ok tt) shows.1
+shown_next s t job log_faults.Disk shows = ap (λ (x : State). x.next) shows.2.1 ∙ sealed_next s shows.0 job (Ok tt) shows.1
+shown_next s t job log_faults.Odd shows = ap (λ (x : State). x.next) shows.2.1 ∙ sealed_next s shows.0 job (Ok tt) shows.1
+shown_next s t job log_faults.Failed shows = absurd shows.2
+
+pub end_next : (s t : State) (result : Result EndAnswer StepFault) → EndCopyTransition s result t → t.next ≡ s.next
+end_next s t (Ok ends.NoJob) turn = ap (λ (x : State). x.next) turn.1
+end_next s t (Ok ends.NotNow) turn = ap (λ (x : State). x.next) turn.1
+end_next s t (Ok ends.NotAtEnd) turn = ap (λ (x : State). x.next) turn.3
+end_next s t (Ok (ends.Ended count)) turn =
+    ap (λ (x : State). x.next) turn.3.2 ∙ ap (λ (x : State). x.next) turn.3.1.2.2.3 ∙ sealed_next s turn.3.1.0 turn.0 (Ok tt) turn.3.1.1
+end_next s t (Err fault) turn = elim turn.2 [
+  | inl unread ↦ ap (λ (x : State). x.next) unread.1.2
+  | inr refused ↦ elim refused.2 [
+    | inl unsealed ↦ sealed_next s t turn.0 (Err refused.0) unsealed
+    | inr unshown ↦ shown_next s t turn.0 refused.0 unshown
+  ]
+]
 
 -- ---- switching
 
@@ -106,7 +131,7 @@ abbrev pub IsAfterFinish : FinishAnswer → State → State → Type 0
 IsAfterFinish finishes.NoJob s u = ⊥
 IsAfterFinish finishes.NotNow s u = ⊥
 IsAfterFinish (finishes.Left n) s u = ⊥
-IsAfterFinish (finishes.StillNamed n) s u = Unit {0}
+IsAfterFinish (finishes.StillNamed n) s u = u.next ≡ s.next
 IsAfterFinish (finishes.Retired log) s u = (u.job ≡ None) × (u.next ≡ s.next)
 
 module _ (s t u : State) (switched : HasSwitched s t) where
@@ -122,7 +147,7 @@ module _ (s t u : State) (switched : HasSwitched s t) where
       let counted = turn.2 in
       let some = turn.3 in
       omega (arith, none, counted, some)
-  finish_leaves (finishes.StillNamed n) turn = tt
+  finish_leaves (finishes.StillNamed n) turn = ap (λ (x : State). x.next) turn.4 ∙ switched.next
   finish_leaves (finishes.Retired log) turn = (
     ap (λ (x : State). x.job) turn.4.2,
     ap (λ (x : State). x.next) turn.4.2 ∙ switched.next,
@@ -141,6 +166,14 @@ module _ (s t : State) where
   gives_up_none : (job : Job) (phase : Phase) → GivesUp s job phase t → t.job ≡ None
   gives_up_none job Copy gives = ap (λ (x : State). x.job) gives.2
   gives_up_none job Switch gives = ap (λ (x : State). x.job) gives
+
+  gives_up_next : (job : Job) (phase : Phase) → GivesUp s job phase t → t.next ≡ s.next
+  gives_up_next job Copy gives = ap (λ (x : State). x.next) gives.2
+  gives_up_next job Switch gives = ap (λ (x : State). x.next) gives
+
+  pub given_up_next : (answer : GiveUpAnswer) → GiveUpTransition s answer t → t.next ≡ s.next
+  given_up_next give_ups.NoJob turn = ap (λ (x : State). x.next) turn.1
+  given_up_next give_ups.GivenUp turn = gives_up_next turn.0 turn.0.phase turn.2
 
   pub given_up : (answer : GiveUpAnswer) → GiveUpTransition s answer t → t.job ≡ None
   given_up give_ups.NoJob turn = ap (λ (x : State). x.job) turn.1 ∙ turn.0

@@ -1,5 +1,5 @@
 -- Removal of logs that no key names: one log, and all logs in order.
-use Rattle.std.proofs.Common.{◌≡◌, ◌⊎◌, inl, inr, ℕ, ◌+◌, ◌<◌, ◌≤◌, true, false, Some, None, is_some, Ok, Err, refl, sym, ap, subst, ◌∙◌, arith}
+use Rattle.std.proofs.Common.{◌≡◌, ◌⊎◌, inl, inr, ℕ, List, ◌+◌, ◌<◌, ◌≤◌, Bool, true, false, Some, None, is_some, Ok, Err, refl, sym, ap, subst, ◌∙◌, arith}
 use Rattle.std.proofs.Math.Decide.{dec_le}
 use Rattle.std.proofs.lemmas.Option.{same_Some}
 use Rattle.std.specs.FinMap as finite
@@ -23,7 +23,8 @@ use Rattle.bk_collect.specs.declared.answer.CloseAnswer.TheVariants as closes
 use Rattle.bk_collect.specs.declared.answer.RemoveAnswer.TheVariants as removes
 use Rattle.bk_collect.specs.declared.answer.CollectFault.{CollectFault}
 use Rattle.bk_collect.specs.declared.answer.CollectFault.TheVariants as collect_faults
-use Rattle.bk_offline_gc.specs.Stages.{Touches, IsDoneWith, IsCleared, IsClearedTo}
+use Rattle.bk_compact.specs.Compacting.{is_among}
+use Rattle.bk_offline_gc.specs.Stages.{KeepsPassed, Touches, IsDoneWith, IsCleared, IsClearedTo}
 use Rattle.bk_offline_gc.specs.Sweeping.{HadLeases, IsLeft, SweepFrame}
 
 -- ---- frames
@@ -245,6 +246,23 @@ module _ (s t : State) (log : ℕ) where
     | inr retired ↦ let e : Retired ≡ Closed = never_in s log Retired Closed retired closed in cc
   ]
 
+-- ---- logs that are passed over
+
+pub keeps_none : (s t : State) (passed : List ℕ) → t ≡ s → KeepsPassed s passed t
+keeps_none s t passed same = record { each = λ log _. ap (λ (x : State). finite.get x.logs log) same }
+
+pub keeps_then : (s t u : State) (passed : List ℕ) → KeepsPassed s passed t → KeepsPassed t passed u → KeepsPassed s passed u
+keeps_then s t u passed first second = record { each = λ log among. second.each log among ∙ first.each log among }
+
+-- a part of a sweep that changes at most a log that is not passed over
+pub keeps_other : (s t : State) (passed : List ℕ) (log : ℕ) → is_among passed log ≡ false → Touches s log t → KeepsPassed s passed t
+keeps_other s t passed log kept touches = record {
+  each = λ id among. touches.others id (λ same. not_both (subst (λ (n : ℕ). is_among passed n ≡ true) same among) kept);
+}
+  where
+    not_both : {b : Bool} → b ≡ true → b ≡ false → ⊥
+    not_both one other = cc
+
 -- ---- all logs
 
 pub had_on : (s t : State) (log : ℕ) → SweepFrame s t → HadLeases s log → HadLeases t log
@@ -259,37 +277,39 @@ left_on s t log frame index Readable left = subst (λ (m : Places). 1 ≤ log_co
 left_on s t log frame index Retired left = had_on s t log frame left
 left_on s t log frame index Closed left = left
 
-pub cleared_none : (s : State) → s.job ≡ None → IsClearedTo s 0 s
-cleared_none s idle = record {
+pub cleared_none : (s : State) (passed : List ℕ) → s.job ≡ None → IsClearedTo s passed 0 s
+cleared_none s passed idle = record {
   frame = frame_none s;
   failures = refl;
   idle = idle;
   next = refl;
+  kept = keeps_none s s passed refl;
   done = λ log wrong. absurd (omega (arith, wrong));
 }
 
-pub cleared_on : (s t u : State) (from log : ℕ) → IsClearedTo s from t → IsNextHeld t.logs from (Some log) → SweepFrame t u → u.failures ≡ t.failures
-    → Touches t log u → IsDoneWith u log → IsClearedTo s (log + 1) u
-cleared_on s t u from log so_far next frame failures touches done = record {
+pub cleared_on : (s t u : State) (passed : List ℕ) (from log : ℕ) → IsClearedTo s passed from t → IsNextHeld t.logs from (Some log) → SweepFrame t u
+    → u.failures ≡ t.failures → KeepsPassed t passed u → Touches t log u → (is_among passed log ≡ false → IsDoneWith u log) → IsClearedTo s passed (log + 1) u
+cleared_on s t u passed from log so_far next frame failures keeps touches done = record {
   frame = frame_then s t u so_far.frame frame;
   failures = failures ∙ so_far.failures;
   idle = touches.job ∙ so_far.idle;
   next = touches.next ∙ so_far.next;
+  kept = keeps_then s t u passed so_far.kept keeps;
   done = by;
 }
   where
-    by : (id : ℕ) → id < log + 1 → IsDoneWith u id
-    by id within = elim (same_or_apart id log) [
-      | inl here ↦ subst (λ (n : ℕ). IsDoneWith u n) (sym here) done
+    by : (id : ℕ) → id < log + 1 → is_among passed id ≡ false → IsDoneWith u id
+    by id within kept = elim (same_or_apart id log) [
+      | inl here ↦ subst (λ (n : ℕ). IsDoneWith u n) (sym here) (done (subst (λ (n : ℕ). is_among passed n ≡ false) here kept))
       | inr apart ↦ λ held there.
           let was : finite.get t.logs id ≡ Some held = sym (touches.others id apart) ∙ there in
           elim (dec_le from id) [
-            | no below ↦ left_on t u id frame touches.index held.state (so_far.done id (omega (arith, below)) held was)
+            | no below ↦ left_on t u id frame touches.index held.state (so_far.done id (omega (arith, below)) kept held was)
             | yes above ↦
                 let least : log ≤ id = next.2 id (ap is_some was) above in
                 absurd (apart (omega (arith, least, within)))
           ]
     ]
 
-pub cleared_all : (s t : State) (from : ℕ) → IsClearedTo s from t → IsNextHeld t.logs from None → IsCleared t
-cleared_all s t from so_far past = λ log held there. so_far.done log (past log (ap is_some there)) held there
+pub cleared_all : (s t : State) (passed : List ℕ) (from : ℕ) → IsClearedTo s passed from t → IsNextHeld t.logs from None → IsCleared t passed
+cleared_all s t passed from so_far past = λ log kept held there. so_far.done log (past log (ap is_some there)) kept held there

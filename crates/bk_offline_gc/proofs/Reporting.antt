@@ -1,5 +1,5 @@
 -- Faults of the parts of a sweep, from those of the calls in them.
-use Rattle.std.proofs.Common.{◌≡◌, inl, inr, ℕ, ◌+◌, false, Result, Ok, Err, IsErrOf, refl, sym, ap, ◌∙◌, arith}
+use Rattle.std.proofs.Common.{◌≡◌, inl, inr, ℕ, List, ◌+◌, ◌≤◌, false, Result, Ok, Err, IsErrOf, refl, sym, ap, ◌∙◌, arith}
 use Rattle.std.proofs.Math.Decide.{dec_le}
 use Rattle.bk_disk.specs.Disk.{FailsExactlyIf}
 use Rattle.bk_log.specs.declared.fault.LogFault.{LogFault}
@@ -17,9 +17,9 @@ use Rattle.bk_collect.specs.Collecting.{RemoveTransition}
 use Rattle.bk_collect.specs.declared.answer.CollectFault.{CollectFault}
 use Rattle.bk_collect.specs.declared.answer.CollectFault.TheVariants as collect_faults
 use Rattle.bk_collect.specs.declared.answer.RemoveAnswer.{RemoveAnswer}
-use Rattle.bk_compact.specs.Compacting.{BeginTransition, BoundsDeviceFaults, CopyTransition, EndCopyTransition, SealsCopy, ShowsCopy, SourceFails}
+use Rattle.bk_compact.specs.Compacting.{BeginButTransition, BoundsDeviceFaults, CopyTransition, EndCopyTransition, SealsCopy, ShowsCopy, SourceFails}
 use Rattle.bk_compact.specs.declared.answer.Kind.{Kind}
-use Rattle.bk_offline_gc.specs.Faults.{ReportsFaults}
+use Rattle.bk_offline_gc.specs.Faults.{FailsBy, IsOddFault, ReportsFaults, ReportsFaultsBut}
 use Rattle.bk_offline_gc.specs.declared.answer.SweepFault.{SweepFault}
 use Rattle.bk_offline_gc.specs.declared.answer.SweepFault.TheVariants as faults
 
@@ -91,6 +91,59 @@ fails_then sound s t u fault reports same = record {
   free = reports.free;
 }
 
+-- ---- logs that are passed over
+
+-- no log was
+pub but_none : {T : Type 0} (none sound : Type 0) (s t : State) (result : Result T SweepFault) → ReportsFaults {T = T} sound s result t
+    → ReportsFaultsBut {T = T} none sound s result t
+but_none none sound s t result reports = record { later = reports.later; odd = reports.odd; free = reports.free; reports = λ _. reports }
+
+-- a log was
+pub but_one : {T : Type 0} (none sound : Type 0) (s t : State) (value : T) → s.failures ≤ t.failures → ¬ none
+    → ReportsFaultsBut {T = T} none sound s (Ok value) t
+but_one none sound s t value later not = record {
+  later = later;
+  odd = λ wrong. absurd wrong;
+  free = λ wrong. wrong;
+  reports = λ is. absurd (not is);
+}
+
+-- a part that fails, after others; without a log that is passed over these met no failure
+pub but_fails : {T U : Type 0} (none sound : Type 0) (s t u : State) (fault : SweepFault) → s.failures ≤ t.failures → (none → t.failures ≡ s.failures)
+    → t.honest ≡ s.honest → ReportsFaults {T = T} sound t (Err fault) u → ReportsFaultsBut {T = U} none sound s (Err fault) u
+but_fails {T = T} none sound s t u fault later same honest reports = record {
+  later = let later' = reports.later in omega (arith, later, later');
+  odd = λ told. sym honest ∙ reports.odd told;
+  free = reports.free;
+  reports = λ is. fails_after {T = T} sound s t u fault (same is) honest reports;
+}
+
+-- the same of a part that may pass over logs
+pub but_fails_on : {T U : Type 0} (none none' sound : Type 0) (s t u : State) (fault : SweepFault) → s.failures ≤ t.failures
+    → (none → t.failures ≡ s.failures) → (none → none') → t.honest ≡ s.honest → ReportsFaultsBut {T = T} none' sound t (Err fault) u
+    → ReportsFaultsBut {T = U} none sound s (Err fault) u
+but_fails_on {T = T} none none' sound s t u fault later same still honest reports = record {
+  later = let later' = reports.later in omega (arith, later, later');
+  odd = λ told. sym honest ∙ reports.odd told;
+  free = reports.free;
+  reports = λ is. fails_after {T = T} sound s t u fault (same is) honest (reports.reports (still is));
+}
+
+-- a success; without a log that is passed over there was no failure
+pub but_fine : {T : Type 0} (none sound : Type 0) (s t : State) (value : T) → s.failures ≤ t.failures → (none → t.failures ≡ s.failures)
+    → ReportsFaultsBut {T = T} none sound s (Ok value) t
+but_fine none sound s t value later same = record {
+  later = later;
+  odd = λ wrong. absurd wrong;
+  free = λ wrong. wrong;
+  reports = λ is. fine sound s t value (same is);
+}
+
+-- a success met no failure of the device, if no log was passed over
+pub but_same : {T : Type 0} (none sound : Type 0) (s t : State) (value : T) → ReportsFaultsBut {T = T} none sound s (Ok value) t → none
+    → t.failures ≡ s.failures
+but_same none sound s t value reports is = none_failed sound s t value (reports.reports is)
+
 -- ---- a step of a compaction that fails
 
 same_error : {T : Type 0} (fault other : StepFault) → IsErrOf {T = T} (Err fault) other → fault ≡ other
@@ -119,9 +172,9 @@ step_same s t value bounds = elim (dec_le (s.failures + 1) t.failures) [
     never wrong = cc
 
 -- the begin, which reads nothing
-pub begin_fails : {T U : Type 0} (sound : Type 0) (s t : State) (kind : Kind) (fault : StepFault) → ReportsDeviceFault {T = T} s (Err fault) t
-    → BeginTransition s kind (Err fault) t → ReportsFaults {T = U} sound s (Err (faults.Step fault)) t
-begin_fails {T = T} sound s t kind fault reports turn =
+pub begin_fails : {T U : Type 0} (sound : Type 0) (s t : State) (kind : Kind) (passed : List ℕ) (fault : StepFault) → ReportsDeviceFault {T = T} s (Err fault) t
+    → BeginButTransition s kind passed (Err fault) t → ReportsFaults {T = U} sound s (Err (faults.Step fault)) t
+begin_fails {T = T} sound s t kind passed fault reports turn =
     step_fails {T = T} sound s t fault (record { later = reports.later; once = reports.once; told_so = reports.told }) (λ _. reports)
     (by turn.1.0 turn.1.1 turn.1.2)
   where

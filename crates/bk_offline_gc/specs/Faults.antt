@@ -42,3 +42,12 @@ pub record ReportsFaults {T : Type 0} (sound : Type 0) (s : State) (result : Res
   pub failed : sound → FailsBy IsDiskFault result → s.failures < t.failures
   pub odd : FailsBy IsOddFault result → s.honest ≡ false
   pub free : ¬ (FailsBy (λ fault. fault ≡ faults.JobRunning) result)
+
+-- The same if a condition holds, as that no further log was passed over. In any case failures of the
+-- device are not forgotten, `Odd` occurs only if the disk is not honest, and no compaction was
+-- running.
+pub record ReportsFaultsBut {T : Type 0} (none sound : Type 0) (s : State) (result : Result T SweepFault) (t : State) : Type 0 where
+  pub later : s.failures ≤ t.failures
+  pub odd : FailsBy IsOddFault result → s.honest ≡ false
+  pub free : ¬ (FailsBy (λ fault. fault ≡ faults.JobRunning) result)
+  pub reports : none → ReportsFaults sound s result t

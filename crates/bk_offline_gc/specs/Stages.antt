@@ -1,5 +1,5 @@
 -- The parts of a sweep: what each leaves for the next.
-use Rattle.std.specs.Prelude.{◌≡◌, ◌≢◌, ◌↔◌, ℕ, ◌<◌, ◌≤◌, ◌^◌, false, IsTrue, [], length, Contains, List, Some, None}
+use Rattle.std.specs.Prelude.{◌≡◌, ◌≢◌, ◌↔◌, ℕ, ◌<◌, ◌≤◌, ◌^◌, true, false, IsTrue, [], length, Contains, List, Some, None}
 use Rattle.std.specs.FinMap as finite
 use Rattle.bk_store.specs.State.{State}
 use Rattle.bk_store.specs.Logs.{Log}
@@ -7,7 +7,7 @@ use Rattle.bk_store.specs.Jobs.{Job}
 use Rattle.bk_store.specs.Primitives.{IsIn}
 use Rattle.bk_store.specs.declared.job.Phase.TheVariants.{Copy, Switch}
 use Rattle.bk_store.specs.declared.log.LogState.TheVariants.{Retired}
-use Rattle.bk_compact.specs.Compacting.{IsRunning, IsUndisturbed, entries_left}
+use Rattle.bk_compact.specs.Compacting.{IsRunning, IsUndisturbed, entries_left, is_among}
 use Rattle.bk_offline_gc.specs.Sweeping.{IsFalling, IsLeft, SweepFrame}
 
 -- ---- removing
@@ -19,21 +19,26 @@ pub record Touches (s : State) (log : ℕ) (t : State) : Type 0 where
   pub index : t.index ≡ s.index
   pub others : (id : ℕ) → id ≢ log → finite.get t.logs id ≡ finite.get s.logs id
 
+-- the logs that are passed over are unchanged
+pub record KeepsPassed (s : State) (passed : List ℕ) (t : State) : Type 0 where
+  pub each : (log : ℕ) → is_among passed log ≡ true → finite.get t.logs log ≡ finite.get s.logs log
+
 -- if the log is held, nothing is left to do with it
 abbrev pub IsDoneWith : State → ℕ → Type 0
 IsDoneWith s log = (held : Log) → finite.get s.logs log ≡ Some held → IsLeft s log held.state
 
--- the same of every log
-abbrev pub IsCleared : State → Type 0
-IsCleared s = (log : ℕ) → IsDoneWith s log
+-- the same of every log that is not passed over
+abbrev pub IsCleared : State → List ℕ → Type 0
+IsCleared s passed = (log : ℕ) → is_among passed log ≡ false → IsDoneWith s log
 
--- each log below this id is done with
-pub record IsClearedTo (s : State) (from : ℕ) (t : State) : Type 0 where
+-- each log below this id that is not passed over is done with
+pub record IsClearedTo (s : State) (passed : List ℕ) (from : ℕ) (t : State) : Type 0 where
   pub frame : SweepFrame s t
   pub failures : t.failures ≡ s.failures
   pub idle : t.job ≡ None
   pub next : t.next ≡ s.next
-  pub done : (log : ℕ) → log < from → IsDoneWith t log
+  pub kept : KeepsPassed s passed t
+  pub done : (log : ℕ) → log < from → is_among passed log ≡ false → IsDoneWith t log
 
 -- of the logs below this id, so many are Retired
 pub record HasKeptTo (s : State) (from count : ℕ) : Type 0 where
@@ -43,12 +48,14 @@ pub record HasKeptTo (s : State) (from count : ℕ) : Type 0 where
   pub counted : length logs ≡ count
   pub few : count ≤ from
 
--- a sweep so far, between two compactions
-pub record IsSweeping (s t : State) : Type 0 where
+-- a sweep so far, between two compactions; the device did not fail unless logs were passed over
+pub record IsSweeping (s : State) (before : List ℕ) (t : State) (passed : List ℕ) : Type 0 where
   pub frame : SweepFrame s t
-  pub failures : t.failures ≡ s.failures
+  pub grows : length before ≤ length passed
+  pub later : s.failures ≤ t.failures
+  pub failures : length passed ≡ length before → t.failures ≡ s.failures
   pub idle : t.job ≡ None
-  pub cleared : IsCleared t
+  pub cleared : IsCleared t passed
 
 -- ---- compacting
 

@@ -15,7 +15,7 @@ use Rattle.bk_store.specs.Contents.{PreservesContents}
 use Rattle.bk_store.specs.Frame.{CoreUnchanged, CachesUnchanged}
 use Rattle.bk_store.specs.declared.log.LogState.{LogState}
 use Rattle.bk_store.specs.declared.log.LogState.TheVariants.{Writing, Filled, Copying, Readable, Retired, Closed}
-use Rattle.bk_compact.specs.Compacting.{Chooses, threshold_of}
+use Rattle.bk_compact.specs.Compacting.{Chooses, ChoosesBut, is_among, threshold_of}
 use Rattle.bk_compact.specs.declared.answer.Kind.{Kind}
 
 -- Frame condition of every step of a sweep. Settings, deleted and fenced ledgers, removed logs,
@@ -52,6 +52,13 @@ pub record IsSwept (s : State) (kind : Kind) : Type 0 where
   pub idle : s.job ≡ None
   pub none : IsTrue s.honest → Chooses s (threshold_of s.settings kind) None
   pub left : (log : ℕ) (held : Log) → finite.get s.logs log ≡ Some held → IsLeft s log held.state
+
+-- The same but for logs that are passed over: none of the others qualifies, and none of them is left
+-- that could be removed.
+pub record IsSweptBut (s : State) (kind : Kind) (passed : List ℕ) : Type 0 where
+  pub idle : s.job ≡ None
+  pub none : IsTrue s.honest → ChoosesBut s passed (threshold_of s.settings kind) None
+  pub left : (log : ℕ) (held : Log) → is_among passed log ≡ false → finite.get s.logs log ≡ Some held → IsLeft s log held.state
 
 -- each id is larger than those after it
 abbrev pub IsFalling : List ℕ → Type 0

@@ -1,22 +1,25 @@
 //! Removes logs that no index entry points into.
 
-ghost use Rattle.std.specs.Prelude.{◌≡◌, None, OnOk};
+ghost use Rattle.std.specs.Prelude.{◌≡◌, None, OnOk, false};
 ghost use Rattle.std.specs.Bool.{OnFalse, OnTrue};
 ghost use Rattle.bk_disk.specs.Disk.{AreSound};
 ghost use Rattle.bk_store.specs.Primitives.{IsIn};
 ghost use Rattle.bk_store.specs.declared.log.LogState.TheVariants.{Closed as ClosedState};
+ghost use Rattle.bk_compact.specs.Compacting.{is_among};
 ghost use Rattle.bk_offline_gc.specs.Faults.{ReportsFaults};
-ghost use Rattle.bk_offline_gc.specs.Stages.{IsCleared, IsDoneWith, Touches};
+ghost use Rattle.bk_offline_gc.specs.Stages.{IsCleared, IsDoneWith, KeepsPassed, Touches};
 ghost use Rattle.bk_offline_gc.specs.Sweeping.{HasKept, SweepFrame, is_retired as is_retired_state};
 
-use crate::{SweepFault, Swept, Watch};
+use crate::{PassedLogs, SweepFault, Swept, Watch};
 use bk_collect::{CloseAnswer, RemoveAnswer, RetireAnswer, close, remove, retire};
 use bk_disk::LogDisk;
 use bk_store::{LogState, Store};
 
-/// Removes each log that no index entry points into, that is not in use, and that has no lease.
+/// Removes each log that no index entry points into, that is not in use, that has no lease, and
+/// that is not passed over.
 pub(crate) fn clear_all<D: LogDisk, W: Watch>(
     store: &mut Store<D>,
+    passed: &PassedLogs,
     swept: &mut Swept,
     watch: &mut W,
 ) -> Result<(), SweepFault>
@@ -24,20 +27,22 @@ pub(crate) fn clear_all<D: LogDisk, W: Watch>(
     ensures leaves { SweepFrame store.old store.new }
     ensures cause { ReportsFaults (AreSound D.View.sound) store.old result store.new }
     ensures idle { store.new.job ≡ None }
-    ensures done { OnOk result (IsCleared store.new × (store.new.next ≡ store.old.next)) }
+    ensures kept { KeepsPassed store.old passed.now store.new }
+    ensures done { OnOk result (IsCleared store.new passed.now × (store.new.next ≡ store.old.next)) }
 {
     let mut from = 0;
     while let Some(log) = store.log_from(from) {
-        clear(store, log, swept, watch)?;
+        clear(store, passed, log, swept, watch)?;
         from = log + 1;
     }
     Ok(())
 }
 
-/// Removes a log and its file if no index entry points into it, it is not in use, and it has no
-/// lease.
+/// Removes a log and its file if no index entry points into it, it is not in use, it has no lease,
+/// and it is not passed over.
 fn clear<D: LogDisk, W: Watch>(
     store: &mut Store<D>,
+    passed: &PassedLogs,
     log: u32,
     swept: &mut Swept,
     watch: &mut W,
@@ -46,8 +51,12 @@ fn clear<D: LogDisk, W: Watch>(
     ensures leaves { SweepFrame store.old store.new }
     ensures cause { ReportsFaults (AreSound D.View.sound) store.old result store.new }
     ensures touches { Touches store.old log store.new }
-    ensures done { OnOk result (IsDoneWith store.new log) }
+    ensures kept { KeepsPassed store.old passed.now store.new }
+    ensures done { OnOk result (is_among passed.now log ≡ false → IsDoneWith store.new log) }
 {
+    if passed.contains(log) {
+        return Ok(());
+    }
     if !close_unnamed(store, log) {
         return Ok(());
     }

@@ -5,11 +5,12 @@
 mod answer;
 mod clearing;
 mod compacting;
+mod passed;
 mod planning;
 mod sweeping;
 
 pub use answer::{SweepFault, Swept, Watch};
-pub use bk_compact::Kind;
+pub use bk_compact::{Kind, PassCause, PassedLog, PassedLogs};
 pub use bk_store::{Settings, Store};
 pub use planning::{Fate, Planned, plan};
 pub use sweeping::{Done, sweep, sweep_disk};

@@ -4,7 +4,7 @@ ghost use Rattle.std.specs.Prelude.{◌≡◌, All, IfOk, IfSome, OnOk};
 ghost use Rattle.bk_compact.specs.Compacting.{threshold_of};
 ghost use Rattle.bk_offline_gc.specs.Planning.{HasFate, HasVerdict, IsPlanned};
 
-use crate::SweepFault;
+use crate::{PassedLogs, SweepFault};
 use bk_compact::Kind;
 use bk_disk::{LogDisk, LogView};
 use bk_head::{BATCH_HEAD, PAIR};
@@ -83,15 +83,20 @@ fn add_planned<D: LogDisk>(
     }
 }
 
-/// Returns the number of logs that a sweep of this kind would compact or remove. Reads no log.
-pub(crate) fn count_planned<D: LogDisk>(store: &Store<D>, kind: Kind) -> u64 {
+/// Returns the number of logs that a sweep of this kind would compact or remove, but those that it
+/// passes over. Reads no log.
+pub(crate) fn count_planned<D: LogDisk>(store: &Store<D>, kind: Kind, passed: &PassedLogs) -> u64 {
     let threshold = threshold(store, kind);
     let mut count = 0u64;
     let mut from = 0;
     while let Some(log) = store.log_from(from) {
         match verdict_of(store, threshold, log) {
             Verdict::Stays => {}
-            Verdict::Unnamed | Verdict::Wasted(_) => count = count.saturating_add(1),
+            Verdict::Unnamed | Verdict::Wasted(_) => {
+                if !passed.contains(log) {
+                    count = count.saturating_add(1);
+                }
+            }
         }
         from = log + 1;
     }
@@ -99,7 +104,7 @@ pub(crate) fn count_planned<D: LogDisk>(store: &Store<D>, kind: Kind) -> u64 {
 }
 
 /// Returns the threshold of a kind, in thousandths.
-fn threshold<D: LogDisk>(store: &Store<D>, kind: Kind) -> u32
+pub(crate) fn threshold<D: LogDisk>(store: &Store<D>, kind: Kind) -> u32
     ensures { result ≡ threshold_of store.now.settings kind }
 {
     let settings = store.settings();
@@ -129,7 +134,7 @@ fn fate_of<D: LogDisk>(
 
 /// Returns whether a sweep would compact or remove a log: a Readable log that no index entry points
 /// into, or whose live share is below the threshold.
-fn verdict_of<D: LogDisk>(store: &Store<D>, threshold: u32, log: u32) -> Verdict
+pub(crate) fn verdict_of<D: LogDisk>(store: &Store<D>, threshold: u32, log: u32) -> Verdict
     ensures { HasVerdict store.now threshold log result }
 {
     let (Some(state), Some(named)) = (store.log_state(log), store.named(log)) else {

@@ -1,15 +1,19 @@
 -- Steps of the store alone, one after another.
-use Rattle.std.proofs.Common.{◌≡◌, ◌∙◌, sym, subst}
+use Rattle.std.proofs.Common.{◌≡◌, ℕ, List, Result, ◌∙◌, sym, subst}
 use Rattle.bk_store.specs.State.{State}
 use Rattle.bk_store.specs.Transitions.{SwapTransition}
 use Rattle.bk_cache.specs.declared.swap.Swap.{Swap}
 use Rattle.bk_cache.specs.declared.swap.Swap.TheVariants.{Nothing}
+use Rattle.bk_store.specs.declared.step_fault.StepFault.{StepFault}
+use Rattle.bk_compact.specs.Compacting.{BeginButTransition}
+use Rattle.bk_compact.specs.declared.answer.Kind.{Kind}
+use Rattle.bk_compact.specs.declared.answer.BeginAnswer.{BeginAnswer}
 use Rattle.bk_drive.specs.Machine.{WorkTransition}
 use Rattle.bk_drive.specs.declared.step.Work.{Work}
 use Rattle.bk_drive.specs.declared.step.Work.TheVariants as works
 use Rattle.bk_drive.specs.declared.step.Answer.{Answer}
 use Rattle.bk_drive.specs.declared.step.Answer.TheVariants as answers
-use Rattle.bk_serve.specs.Works.{Works, more, none, no_tally, tally_after, Extends, IsEmptied}
+use Rattle.bk_serve.specs.Works.{Works, begins, more, none, no_tally, tally_after, Extends, IsEmptied}
 use Rattle.bk_serve.specs.declared.tally.Tally.{Tally}
 
 -- nothing is done
@@ -20,6 +24,11 @@ stays n s = record { goes = λ start so_far. so_far }
 pub steps_on : (n m : Tally) (s t : State) (work : Work) (answer : Answer) → WorkTransition s work answer t → m ≡ tally_after n answer → Extends n s m t
 steps_on n m s t work answer turn is =
     record { goes = λ start so_far. subst (λ (x : Tally). Works start x t) (sym is) (more work answer so_far turn) }
+
+-- a compaction is begun, of no log that is passed over
+pub begins_on : (n : Tally) (s t : State) (kind : Kind) (passed : List ℕ) (answer : Result BeginAnswer StepFault)
+    → BeginButTransition s kind passed answer t → Extends n s n t
+begins_on n s t kind passed answer turn = record { goes = λ start so_far. begins kind passed answer so_far turn }
 
 -- steps, and further ones
 pub then : (n m k : Tally) (s t u : State) → Extends n s m t → Extends m t k u → Extends n s k u

@@ -1,5 +1,5 @@
 -- Steps of the store alone. Read `Works` first.
-use Rattle.std.specs.Prelude.{◌≡◌, ℕ, ◌+◌, ◌-◌, ◌^◌, min, Ok, None}
+use Rattle.std.specs.Prelude.{◌≡◌, ℕ, ◌+◌, ◌-◌, ◌^◌, List, min, Result, Ok, None}
 use Rattle.std.specs.FinMap as finite
 use Rattle.bk_store.specs.State.{State}
 use Rattle.bk_drive.specs.Machine.{WorkTransition}
@@ -7,6 +7,10 @@ use Rattle.bk_drive.specs.declared.step.Work.{Work}
 use Rattle.bk_drive.specs.declared.step.Answer.{Answer}
 use Rattle.bk_drive.specs.declared.step.Answer.TheVariants as answers
 use Rattle.bk_flush.specs.declared.answer.PublishAnswer.TheVariants as publishes
+use Rattle.bk_store.specs.declared.step_fault.StepFault.{StepFault}
+use Rattle.bk_compact.specs.Compacting.{BeginButTransition}
+use Rattle.bk_compact.specs.declared.answer.Kind.{Kind}
+use Rattle.bk_compact.specs.declared.answer.BeginAnswer.{BeginAnswer}
 use Rattle.bk_compact.specs.declared.answer.CopyAnswer.TheVariants as copies
 use Rattle.bk_collect.specs.declared.answer.RemoveAnswer.TheVariants as removes
 use Rattle.bk_serve.specs.declared.tally.Tally.{Tally}
@@ -43,6 +47,9 @@ pub data Works (start : State) : Tally → State → Type 0 where
   none : Works start no_tally start
   more : {n : Tally} {middle after : State} (work : Work) (answer : Answer) → Works start n middle → WorkTransition middle work answer after
       → Works start (tally_after n answer) after
+  -- a compaction is begun, of no log that is passed over
+  begins : {n : Tally} {middle after : State} (kind : Kind) (passed : List ℕ) (answer : Result BeginAnswer StepFault) → Works start n middle
+      → BeginButTransition middle kind passed answer after → Works start n after
 
 -- Steps that led to the first state lead, with further ones, to the second.
 pub record Extends (n : Tally) (s : State) (m : Tally) (t : State) : Type 0 where

@@ -5,14 +5,15 @@ ghost use Rattle.std.specs.Prelude.{◌↔◌, IsTrue};
 ghost use Rattle.bk_serve.specs.Flushes.{CompactAnswers, IsThreshold};
 ghost use Rattle.bk_serve.specs.Works.{Extends};
 
+use crate::passing::Passing;
 use crate::refusals::{of_collect, of_step};
-use crate::tally::{Tally, step};
+use crate::tally::{Tally, begin_step, step};
 use bk_disk::LogDisk;
 use bk_drive::{
     Answer, BeginAnswer, CopyAnswer, FinishAnswer, Kind, RetireAnswer, SwitchAnswer, Work,
 };
 use bk_serve_core::{Done, Refusal, Reply};
-use bk_store::Store;
+use bk_store::{StepFault, Store};
 
 /// Number of entries of one step.
 const STRIDE: u64 = 1000;
@@ -32,9 +33,13 @@ fn remove_log<D: LogDisk>(store: &mut Store<D>, tally: &mut Tally, log: u32) -> 
     }
 }
 
-/// Removes each log without an entry to which the index points.
+/// Removes each log without an entry to which the index points, but those that are passed over.
 #[tactic(auto, using(crate::proofs::Steps::then, crate::proofs::Steps::stays))]
-fn remove_unused<D: LogDisk>(store: &mut Store<D>, tally: &mut Tally) -> Result<(), Refusal>
+fn remove_unused<D: LogDisk>(
+    store: &mut Store<D>,
+    tally: &mut Tally,
+    passing: &mut Passing,
+) -> Result<(), Refusal>
     ensures { Extends tally.old store.old tally.new store.new }
 {
     let mut from = 0u32;
@@ -43,6 +48,9 @@ fn remove_unused<D: LogDisk>(store: &mut Store<D>, tally: &mut Tally) -> Result<
             break;
         };
         from = log + 1;
+        if passing.passes(store, log) {
+            continue;
+        }
         if let Answer::Retire(RetireAnswer::Retired(_)) = step(store, tally, Work::Retire(log)) {
             remove_log(store, tally, log)?;
         }
@@ -52,18 +60,18 @@ fn remove_unused<D: LogDisk>(store: &mut Store<D>, tally: &mut Tally) -> Result<
 
 /// Copies the live entries of the source log, and seals the target log.
 #[tactic(auto, using(crate::proofs::Steps::then, crate::proofs::Steps::stays))]
-fn copy_all<D: LogDisk>(store: &mut Store<D>, tally: &mut Tally) -> Result<(), Refusal>
+fn copy_all<D: LogDisk>(store: &mut Store<D>, tally: &mut Tally) -> Result<(), StepFault>
     ensures { Extends tally.old store.old tally.new store.new }
 {
     for _ in 0..u64::MAX {
         match step(store, tally, Work::Copy(STRIDE)) {
             Answer::Copy(Ok(CopyAnswer::Copied(_))) => {}
-            Answer::Copy(Err(fault)) => return Err(of_step(fault)),
+            Answer::Copy(Err(fault)) => return Err(fault),
             _ => break,
         }
     }
     match step(store, tally, Work::EndCopy) {
-        Answer::EndCopy(Err(fault)) => Err(of_step(fault)),
+        Answer::EndCopy(Err(fault)) => Err(fault),
         _ => Ok(()),
     }
 }
@@ -81,32 +89,44 @@ fn switch_all<D: LogDisk>(store: &mut Store<D>, tally: &mut Tally)
     }
 }
 
-/// Compacts one log, if one qualifies. Returns whether a log was compacted. After a fault the
-/// compaction is given up.
+/// Compacts one log that is not passed over, if one qualifies. Returns whether there was one. After
+/// a fault the compaction is given up, and the log is passed over if the fault is its own.
 #[tactic(auto, using(crate::proofs::Steps::then, crate::proofs::Steps::stays))]
 fn compact_log<D: LogDisk>(
     store: &mut Store<D>,
     tally: &mut Tally,
     kind: Kind,
+    passing: &mut Passing,
 ) -> Result<bool, Refusal>
     ensures { Extends tally.old store.old tally.new store.new }
 {
-    match step(store, tally, Work::Begin(kind)) {
-        Answer::Begin(Ok(BeginAnswer::Chosen(_))) => {}
-        Answer::Begin(Err(fault)) => return Err(of_step(fault)),
-        _ => return Ok(false),
+    let log = match begin_step(store, tally, kind, passing.ids()) {
+        Ok(BeginAnswer::Chosen(log)) => log,
+        Ok(BeginAnswer::JobRunning | BeginAnswer::NothingToDo) => return Ok(false),
+        Err(fault) => return Err(of_step(fault)),
+    };
+    let Err(fault) = move_all(store, tally) else {
+        return Ok(true);
+    };
+    let _ = step(store, tally, Work::GiveUp);
+    if passing.add(log, fault) {
+        Ok(true)
+    } else {
+        Err(of_step(fault))
     }
-    if let Err(refusal) = copy_all(store, tally) {
-        let _ = step(store, tally, Work::GiveUp);
-        return Err(refusal);
-    }
+}
+
+/// Completes a compaction that has begun.
+#[tactic(auto, using(crate::proofs::Steps::then, crate::proofs::Steps::stays))]
+fn move_all<D: LogDisk>(store: &mut Store<D>, tally: &mut Tally) -> Result<(), StepFault>
+    ensures { Extends tally.old store.old tally.new store.new }
+{
+    copy_all(store, tally)?;
     switch_all(store, tally);
     match step(store, tally, Work::Finish) {
-        Answer::Finish(FinishAnswer::Retired(_)) => Ok(true),
-        _ => {
-            let _ = step(store, tally, Work::GiveUp);
-            Ok(false)
-        }
+        Answer::Finish(FinishAnswer::Retired(_)) => Ok(()),
+        // The index points to an entry that the records do not have.
+        _ => Err(StepFault::Odd),
     }
 }
 
@@ -116,15 +136,16 @@ fn compact_all<D: LogDisk>(
     store: &mut Store<D>,
     tally: &mut Tally,
     kind: Kind,
+    passing: &mut Passing,
 ) -> Result<(), Refusal>
     ensures { Extends tally.old store.old tally.new store.new }
 {
-    remove_unused(store, tally)?;
+    remove_unused(store, tally, passing)?;
     for _ in 0..LOGS {
-        if !compact_log(store, tally, kind)? {
+        if !compact_log(store, tally, kind, passing)? {
             break;
         }
-        remove_unused(store, tally)?;
+        remove_unused(store, tally, passing)?;
     }
     Ok(())
 }
@@ -136,13 +157,14 @@ fn compact_kind<D: LogDisk>(
     tally: &mut Tally,
     threshold: u64,
     kind: Kind,
+    passing: &mut Passing,
 ) -> Result<(), Refusal>
     ensures { Extends tally.old store.old tally.new store.new }
 {
     if threshold == 0 {
         return Ok(());
     }
-    compact_all(store, tally, kind)
+    compact_all(store, tally, kind, passing)
 }
 
 /// Compacts the logs of both kinds, except a kind whose threshold is 0.
@@ -152,11 +174,15 @@ fn compact_both<D: LogDisk>(
     tally: &mut Tally,
     minor: u64,
     major: u64,
+    passing: &mut Passing,
 ) -> Result<(), Refusal>
     ensures { Extends tally.old store.old tally.new store.new }
 {
-    compact_kind(store, tally, minor, Kind::Minor)?;
-    compact_kind(store, tally, major, Kind::Major)
+    if passing.compare(store).is_err() {
+        return Err(Refusal::Memory);
+    }
+    compact_kind(store, tally, minor, Kind::Minor, passing)?;
+    compact_kind(store, tally, major, Kind::Major, passing)
 }
 
 /// Returns whether a threshold of a request is 0 or that of the store.
@@ -173,6 +199,7 @@ pub(crate) fn compact<D: LogDisk>(
     is_busy: bool,
     minor: u64,
     major: u64,
+    passing: &mut Passing,
 ) -> Reply<'static>
     ensures { CompactAnswers store.old (told result) store.new }
 {
@@ -187,7 +214,7 @@ pub(crate) fn compact<D: LogDisk>(
         return Reply::Refused(Refusal::Busy);
     }
     let mut tally = Tally::NONE;
-    match compact_both(store, &mut tally, minor, major) {
+    match compact_both(store, &mut tally, minor, major, passing) {
         Ok(()) => Reply::Done(Done::Compacted {
             logs: tally.removed,
             entries: tally.copied,

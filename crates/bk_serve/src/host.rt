@@ -162,7 +162,7 @@ pub(crate) fn answer<D: LogDisk, F: ManifestFile>(
         Request::Flush => flush(store).encode(id, out),
         Request::Checkpoint => checkpoint(store).encode(id, out),
         Request::Compact { minor, major } => {
-            compact(store, is_busy, minor, major).encode(id, out)
+            compact(store, is_busy, minor, major, background.passing()).encode(id, out)
         }
         Request::Seal => seal(store).encode(id, out),
         Request::Close => close(store).encode(id, out),

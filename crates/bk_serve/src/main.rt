@@ -18,6 +18,7 @@ mod listing;
 mod notes;
 mod opening;
 mod options;
+mod passing;
 mod pump;
 mod reading;
 mod refusals;

@@ -160,11 +160,12 @@ fn open_host<D: LogDisk, F: ManifestFile>(
         Err(fault) => return Err(OpenFault::Store(fault)),
     };
     fence_all(&mut store, &named.fenced)?;
+    let found = store.stats().next;
     Ok(Host {
         alloc,
         store,
         notes,
-        background: Background::new(options.compact),
+        background: Background::new(alloc, options.compact, found),
     })
 }
 

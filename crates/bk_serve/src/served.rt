@@ -5,6 +5,7 @@ ghost use Rattle.bk_serve.specs.Answers.{Answers};
 
 use crate::host::{Host, ServedDisk, ServedView, answer, begin};
 use crate::reading::ReadJob;
+use bk_compact::PassedLog;
 use bk_disk::LogDisk;
 use bk_manifest::ManifestFile;
 use bk_manifest_disk::KeptFile;
@@ -12,6 +13,7 @@ use bk_serve_core::{EncodeError, Request};
 use bk_serve_dispatch::Service;
 use bk_store::Stats;
 use crossbeam_channel::Sender;
+use std::io::{Stderr, Write};
 use std::sync::Wait;
 
 /// What of a store changes whenever one of its logs has been sealed.
@@ -57,12 +59,17 @@ pub(crate) struct Served<R: Wait + Drop> {
     pub(crate) host: Host<ServedDisk, KeptFile>,
     /// None: no hints are written.
     watch: Option<Watch<R>>,
+    errors: Stderr,
+    /// Number of the logs passed over that were reported.
+    told: usize,
 }
 
 impl<R: Wait + Drop> Served<R> {
-    /// Returns a host, and has hints written by messages to `due`.
+    /// Returns a host, and has hints written by messages to `due`. Logs that compactions pass over are
+    /// reported on `errors`.
     pub(crate) fn new(
         host: Host<ServedDisk, KeptFile>,
+        errors: Stderr,
         rt: R,
         due: Option<Sender<()>>,
     ) -> Served<R> {
@@ -71,7 +78,23 @@ impl<R: Wait + Drop> Served<R> {
             Some(due) => Some(Watch { rt, due, logs }),
             None => None,
         };
-        Served { host, watch }
+        Served {
+            host,
+            watch,
+            errors,
+            told: 0,
+        }
+    }
+
+    /// Reports the logs that compactions have passed over since the last report.
+    fn tell_passed(&mut self) {
+        let count = self.host.background.passed_count();
+        for number in self.told..count {
+            if let Some(PassedLog { log, cause }) = self.host.background.passed(number) {
+                let _ = writeln!(self.errors, "note log {log}: not compacted: {cause}");
+            }
+        }
+        self.told = count;
     }
 
     /// Has hints written if a log has been sealed.
@@ -107,6 +130,7 @@ impl<R: Wait + Drop> Service for Served<R> {
             self.host.background.stir();
         }
         Self::look(&mut self.watch, &self.host);
+        self.tell_passed();
         answered
     }
 
@@ -119,10 +143,11 @@ impl<R: Wait + Drop> Service for Served<R> {
         self.host.background.is_due()
     }
 
-    /// Performs a step of the compaction.
+    /// Performs a step of the compaction, and reports a log that it passes over.
     fn work(&mut self) {
         self.host.background.work(&mut self.host.store);
         Self::look(&mut self.watch, &self.host);
+        self.tell_passed();
     }
 }
 

@@ -119,13 +119,16 @@ fn begin<H: Threads + Wait + Copy + Drop + Send + 'static>(
     errors: &mut Stderr,
 ) -> (Served<H>, Option<Receiver<()>>) {
     if !options.hints {
-        return (Served::new(host, handle, None), None);
+        return (Served::new(host, rt.stderr(), handle, None), None);
     }
     match Hinting::new(rt, handle, path) {
-        Some(Hinting { due, ended }) => (Served::new(host, handle, Some(due)), Some(ended)),
+        Some(Hinting { due, ended }) => (
+            Served::new(host, rt.stderr(), handle, Some(due)),
+            Some(ended),
+        ),
         None => {
             let _ = writeln!(errors, "note hint not written: no memory or no thread");
-            (Served::new(host, handle, None), None)
+            (Served::new(host, rt.stderr(), handle, None), None)
         }
     }
 }

@@ -1,13 +1,15 @@
 //! Steps of the store alone, and what they did.
 
 ghost use Rattle.std.specs.Prelude.{◌≡◌};
+ghost use Rattle.bk_compact.specs.Compacting.{BeginButTransition};
 ghost use Rattle.bk_drive.specs.Machine.{WorkTransition};
 ghost use Rattle.bk_serve.specs.Works as says;
 ghost use Rattle.bk_serve.specs.Works.{Extends, tally_after};
 
+use bk_compact::begin_but;
 use bk_disk::LogDisk;
-use bk_drive::{Answer, CopyAnswer, PublishAnswer, RemoveAnswer, Work, apply};
-use bk_store::Store;
+use bk_drive::{Answer, BeginAnswer, CopyAnswer, Kind, PublishAnswer, RemoveAnswer, Work, apply};
+use bk_store::{StepFault, Store};
 
 /// What steps did: entries published and copied, logs removed. Each count saturates at 2^64 - 1.
 #[derive(Clone, Copy, Debug, PartialEq, Eq)]
@@ -78,6 +80,21 @@ fn removed_by(answer: &Answer) -> u64
         },
         _ => 0,
     }
+}
+
+/// Begins a compaction of a log that is not passed over, which counts for nothing.
+#[tactic(auto, using(crate::proofs::Steps::begins_on))]
+pub(crate) fn begin_step<D: LogDisk>(
+    store: &mut Store<D>,
+    tally: &mut Tally,
+    kind: Kind,
+    passed: &[u32],
+) -> Result<BeginAnswer, StepFault>
+    ensures works { Extends tally.old store.old tally.new store.new }
+    ensures transition { BeginButTransition store.old kind passed.now result store.new }
+{
+    let _ = tally;
+    begin_but(store, kind, passed)
 }
 
 /// Performs a step of the store alone, and counts what it did.

@@ -28,7 +28,8 @@ returns-in_default-clause-transition g c =
     let view : View = view_of g.D.View.LogView.bytes g.D.View.LogView.honest g.D.View.LogView.sound c.args.view.now in
     subst (λ (r : Stopped). CopiesNext c.args.store.now c.args.job.now c.args.count (Err r) c.odd.new.store c.args.job.now) (sym c.odd.ensures.value) (
       short_odd view c.args.store.now c.reveal_invariant.ensures c.args.job.now c.requires.copying c.requires.view
-          (λ truth. subst (λ n. view_end view.bytes < n) c.at.ensures (c.in_default.ensures.none truth))
+          (λ truth. subst (λ n. view_end view.bytes < n) c.at.ensures
+          (subst (λ (v : View). IsTrue v.is_honest → view_end v.bytes < c.at.result) c.new-records.ensures c.in_default.ensures.none truth))
           c.args.count c.odd.new.store c.args.job.now c.odd.ensures.transition,
       tt,
     )
@@ -37,7 +38,8 @@ pub loop-number-init : goal.loop-number-init
 loop-number-init g c =
     let view : View = view_of g.D.View.LogView.bytes g.D.View.LogView.honest g.D.View.LogView.sound c.args.view.now in
     going_starts view c.args.store.now c.reveal_invariant.ensures c.args.job.now c.requires.copying c.requires.view c.in-Some.scanner
-    (subst (λ (n : ℕ). ScansFrom view.bytes view.is_honest view.is_sound n c.in-Some.scanner) c.at.ensures c.in-Some.ensures.some)
+    (subst (λ (n : ℕ). ScansFrom view.bytes view.is_honest view.is_sound n c.in-Some.scanner) c.at.ensures
+    (subst (λ (v : View). ScansFrom v.bytes v.is_honest v.is_sound c.at.result c.in-Some.scanner) c.new-records.ensures c.in-Some.ensures.some))
 
 pub loop-number-preserved : goal.loop-number-preserved
 loop-number-preserved g c =

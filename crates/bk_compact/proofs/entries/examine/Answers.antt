@@ -10,8 +10,9 @@ use Rattle.bk_compact.specs.JobSteps.{CopiesEntry, IsCopying}
 use Rattle.bk_compact.proofs.Stored.{kept_held, kept_ids}
 use Rattle.bk_compact.proofs.Copied.{examined_copied, examined_past}
 use Rattle.bk_compact.proofs.CopyWriter.{next_near, stops_odd}
+use Rattle.bk_compact.proofs.Lost.{never_lost}
 use Rattle.bk_compact.proofs.entries.examine.Goals as goal
-use Rattle.bk_compact.proofs.entries.examine.Goals.{then-named+in_ok-copy_entry, else-named}
+use Rattle.bk_compact.proofs.entries.examine.Goals.{then-named+in_ok-copy_entry, else-named+else-is_lost}
 use Rattle.std.proofs.lemmas.Bool.{false_from_ne_true}
 
 pub returns-then-behind-from-clause-transition : goal.returns-then-behind-from-clause-transition
@@ -33,6 +34,16 @@ unwrap-from-requires g c =
     let most = kept_ids s c.reveal_invariant.ensures in
     let begun = c.requires.copying.out.keeps.begun in
     ap is_some (some_iff _ _ _ c.pack.ensures (omega (arith, below, most, c.source.ensures), omega (arith, begun, c.requires.ahead.ahead)))
+
+pub returns-then-is_lost-clause-transition : goal.returns-then-is_lost-clause-transition
+returns-then-is_lost-clause-transition g c =
+    let s = c.args.store.now in
+    let found = c.args.found.now in
+    stops_odd s c.odd-then-is_lost.new.store c.args.job.now found c.odd-then-is_lost.result c.odd-then-is_lost.ensures.value
+    (false_from_ne_true s.honest (λ honest.
+    never_lost s c.reveal_invariant.ensures c.args.job.now c.requires.copying.out.keeps found c.requires.ahead honest
+    (c.is_lost.ensures.0 c.if-is_lost.true)))
+    c.odd-then-is_lost.ensures.transition
 
 pub returns-clause-transition : goal.returns-clause-transition
 returns-clause-transition g c =
@@ -56,10 +67,13 @@ returns-clause-transition g c =
           (subst (λ (u : State). CopiesEntry s job found (Ok tt) u w.copy_entry.new.job) (sym w.store-is) w.in_ok-copy_entry.ensures.transition) in
           subst (λ (b : Bool). Examines s job found b c.if-named.store c.go_to.new.self × IsCopying c.if-named.store c.go_to.new.self) (sym w.if-named.true)
           (examined_copied s c.reveal_invariant.ensures job c.requires.copying found c.requires.ahead c.if-named.store c.if-named.job c.go_to.new.self turn moved)
-      | else-named w ↦
+      | else-named+else-is_lost w ↦
           subst (λ (b : Bool). Examines s job found b c.if-named.store c.go_to.new.self × IsCopying c.if-named.store c.go_to.new.self) (sym w.if-named.false)
           (examined_past s c.reveal_invariant.ensures job c.requires.copying found c.requires.ahead c.if-named.store c.if-named.job c.go_to.new.self
-          (λ sent. not_both (c.is_sent-named.ensures.unsent (sent ∙ ap Some (sym place))) w.if-named.false) w.store-is w.job-is moved)
+          (record {
+            unsent = λ sent. not_both (c.is_sent-named.ensures.unsent (sent ∙ ap Some (sym place))) w.if-named.false;
+            kept = λ lost. not_both (w.is_lost.ensures.1 lost) w.if-is_lost.false;
+          }) w.store-is w.job-is moved)
     ]
   where
     not_both : {b : _} → b ≡ true → b ≡ false → ⊥

@@ -24,7 +24,23 @@ returns-in-Retired-clause-ok g c =
     let s = c.args.store.now in
     let t = c.switch_all.new.store in
     let u = c.finish.new.store in
-    subst (λ (r : FinishAnswer). IsAfterFinish r s u) c.in-Retired.is
+    (subst (λ (r : FinishAnswer). IsAfterFinish r s u) c.in-Retired.is
+    (finish_leaves s t u c.switch_all.ensures.switched c.finish.result c.finish.ensures.transition)).0
+
+pub returns-in-Retired-clause-next : goal.returns-in-Retired-clause-next
+returns-in-Retired-clause-next g c =
+    let s = c.args.store.now in
+    let t = c.switch_all.new.store in
+    let u = c.finish.new.store in
+    (subst (λ (r : FinishAnswer). IsAfterFinish r s u) c.in-Retired.is
+    (finish_leaves s t u c.switch_all.ensures.switched c.finish.result c.finish.ensures.transition)).1
+
+pub returns-in-StillNamed-clause-next : goal.returns-in-StillNamed-clause-next
+returns-in-StillNamed-clause-next g c =
+    let s = c.args.store.now in
+    let t = c.switch_all.new.store in
+    let u = c.finish.new.store in
+    subst (λ (r : FinishAnswer). IsAfterFinish r s u) c.in-StillNamed.is
     (finish_leaves s t u c.switch_all.ensures.switched c.finish.result c.finish.ensures.transition)
 
 pub returns-in-StillNamed-clause-cause : goal.returns-in-StillNamed-clause-cause

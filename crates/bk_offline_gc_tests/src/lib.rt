@@ -1,0 +1,5 @@
+//! Tests of `bk_offline_gc`.
+#![tactic(auto)]
+
+#[cfg(test)]
+mod tests;

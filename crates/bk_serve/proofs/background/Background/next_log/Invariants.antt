@@ -1,0 +1,5 @@
+use Rattle.std.proofs.Common.{◌-◌}
+use Rattle.bk_serve.proofs.background.Background.next_log.Given as goal
+
+abbrev pub decreases-loop-log : goal.decreases-loop-log
+decreases-loop-log g l = 2147483648 - l.from
