@@ -162,6 +162,9 @@ pub pairs_lost : (offset at : ℕ) (tail batch : List ℕ) (m : LedgersMap) (fau
     → HasPairs (drop at tail) batch → PairFaultIf s.pairs batch fault → IfBytes fault (SpellsNoMap tail)
 pairs_lost offset at tail batch m (faults.Log (bytes_faults.Head why)) within s has h = pair_lost offset at tail batch m why within s has h
 pairs_lost offset at tail batch m (faults.Log (bytes_faults.BadLength place length)) within s has h = absurd h
+pairs_lost offset at tail batch m (faults.Log (bytes_faults.CutShort place map)) within s has h = absurd h
+pairs_lost offset at tail batch m (faults.Log bytes_faults.MapDiffers) within s has h = absurd h
+pairs_lost offset at tail batch m (faults.Log (bytes_faults.Direct place)) within s has h = absurd h
 pairs_lost offset at tail batch m faults.NoLog within s has h = tt
 pairs_lost offset at tail batch m faults.Disk within s has h = tt
 pairs_lost offset at tail batch m faults.Memory within s has h = tt

@@ -10,7 +10,7 @@ use crate::header::{Head, read_head};
 use crate::ledgers::{Counted, counted_ledgers};
 use crate::turns::Turns;
 use crate::walk::TakesEntries;
-use crate::written::written_ledgers;
+use crate::written::named_ledgers;
 use crate::{BytesFault, DirFault, Form};
 use bk_disk::{LogDisk, LogView};
 use bk_head::Header;
@@ -213,7 +213,7 @@ pub(crate) fn compare_map<V: LogView>(
     header: &Header,
     counted: &Counted,
 ) -> Result<Health, DirFault> {
-    match written_ledgers(alloc, view, header)? {
+    match named_ledgers(alloc, view, header)? {
         None => Ok(Health::Unsealed { torn: counted.torn }),
         Some(written) if written == counted.ledgers => Ok(Health::Sound),
         Some(_) => Ok(Health::MapDiffers),

@@ -26,7 +26,7 @@ use std::{fmt, io};
 pub enum LogEnd {
     /// All whole records were read. After the last are `torn` bytes.
     Read { torn: u64 },
-    /// The length field at this position is below 16.
+    /// The length field at this position is below 16, or the direct writer wrote the log.
     BadLength { at: u64 },
 }
 
@@ -37,13 +37,18 @@ pub struct LogFault {
 }
 
 impl LogFault {
-    /// Returns whether a store opens on the log all the same: the map alone is wrong.
+    /// Returns whether the map alone is wrong: it cannot be read, so nothing says that an entry is
+    /// missing.
     pub fn is_of_map(&self) -> bool {
         match self.health {
-            Health::Faulty(BytesFault::BadLength { .. })
-            | Health::Faulty(BytesFault::Head(HeadFault::BadMagic | HeadFault::Version(_))) => {
-                false
-            }
+            Health::Faulty(
+                BytesFault::BadLength { .. }
+                | BytesFault::Direct { .. }
+                | BytesFault::CutShort { .. }
+                | BytesFault::MapDiffers
+                | BytesFault::Head(HeadFault::BadMagic | HeadFault::Version(_)),
+            )
+            | Health::MapDiffers => false,
             _ => true,
         }
     }
@@ -68,6 +73,11 @@ pub trait TakesLogs: TakesEntries {
 
     /// Takes in that a log cannot be opened, for this reason.
     fn miss(&mut self, log: u32, reason: &io::Error) -> Result<(), AllocError>;
+
+    /// Takes in what is wrong with a directory, as a line.
+    fn doubt(&mut self, _line: &str) -> Result<(), AllocError> {
+        Ok(())
+    }
 }
 
 /// Takes in the logs of a disk, by rising id, each with its entries in file order. Nothing is written
@@ -148,7 +158,7 @@ fn visit_log<D: LogDisk, T: TakesLogs>(
 {
     let found = read_head(alloc, disk, log)?;
     let view = view_of(alloc, disk, log)?;
-    let is_sealed = state_of(found.head) == LogStanding::Sealed;
+    let is_sealed = matches!(state_of(found), LogStanding::Sealed | LogStanding::Cut);
     taking.begin(log, found.length, is_sealed);
     let (end, health) = visit_view(alloc, log, &view, found.head, taking)?;
     let fault = if health.is_bad() {
@@ -172,10 +182,9 @@ fn visit_view<V: LogView, T: TakesLogs>(
 ) -> Result<(LogEnd, Health), DirFault> {
     let counted = match counted_ledgers(alloc, log, view, taking) {
         Ok(counted) => counted,
-        Err(DirFault::Log(BytesFault::BadLength { at, length })) => {
-            let fault = BytesFault::BadLength { at, length };
-            return Ok((LogEnd::BadLength { at }, worst(head, fault)));
-        }
+        Err(
+            DirFault::Log(fault @ (BytesFault::BadLength { at, .. } | BytesFault::Direct { at })),
+        ) => return Ok((LogEnd::BadLength { at }, worst(head, fault))),
         Err(fault) => return Err(fault),
     };
     let end = LogEnd::Read { torn: counted.torn };
