@@ -21,7 +21,7 @@ const TOO_LONG: &str =
 
 /// The way on if a header names a map, since a call that failed may have written it in part.
 const SEALED: &str =
-    "if './bookie check' finds its map wrong, './bookie seal --cut-torn' writes the map anew, and names what is lost";
+    "if './bookie check' finds its map wrong, './bookie seal --cut-torn' writes the map anew";
 
 /// Returns the way on after a refusal, if there is one. Its text is a sentence that names the
 /// command.
