@@ -171,6 +171,15 @@ impl TakesLogs for Surveyor {
         self.faults.push(line)?;
         Ok(())
     }
+
+    fn doubt(&mut self, line: &str) -> Result<(), AllocError>
+        ensures counts { self.new.survey ≡ self.old.survey }
+        ensures fault { OnOk result (HasOneMore self.old.faults.items self.new.faults.items) }
+    {
+        let line = String::from_str(self.alloc, line)?;
+        self.faults.push(line)?;
+        Ok(())
+    }
 }
 
 /// Returns the same end for the survey.
