@@ -37,14 +37,13 @@ pub struct LogFault {
 }
 
 impl LogFault {
-    /// Returns whether the map alone is wrong: it cannot be read, so nothing says that an entry is
-    /// missing.
+    /// Returns whether a compaction takes the log all the same: it has no map that tells of further
+    /// entries.
     pub fn is_of_map(&self) -> bool {
         match self.health {
             Health::Faulty(
                 BytesFault::BadLength { .. }
                 | BytesFault::Direct { .. }
-                | BytesFault::CutShort { .. }
                 | BytesFault::MapDiffers
                 | BytesFault::Head(HeadFault::BadMagic | HeadFault::Version(_)),
             )
