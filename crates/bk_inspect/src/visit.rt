@@ -37,19 +37,22 @@ pub struct LogFault {
 }
 
 impl LogFault {
-    /// Returns whether a compaction takes the log all the same: it has no map that tells of further
-    /// entries.
+    /// Returns whether a store opens on the log all the same: the map alone is wrong.
     pub fn is_of_map(&self) -> bool {
         match self.health {
             Health::Faulty(
                 BytesFault::BadLength { .. }
                 | BytesFault::Direct { .. }
-                | BytesFault::MapDiffers
                 | BytesFault::Head(HeadFault::BadMagic | HeadFault::Version(_)),
-            )
-            | Health::MapDiffers => false,
+            ) => false,
             _ => true,
         }
+    }
+
+    /// Returns whether a compaction passes over the log: no store opens on it, or its map has other
+    /// entries.
+    pub fn is_passed_over(&self) -> bool {
+        !self.is_of_map() || self.health == Health::MapDiffers
     }
 }
 
