@@ -1,5 +1,5 @@
 -- The ledgers map in a log.
-use Rattle.std.specs.Prelude.{◌≡◌, ℕ, ◌<◌, ℤ, pos, negsuc, List, [], ◌++◌, drop, flat_map, codes, Option, Some, None, Ok}
+use Rattle.std.specs.Prelude.{◌≡◌, ℕ, ◌<◌, ℤ, pos, negsuc, List, [], ◌++◌, drop, flat_map, codes, Option, Some, None, Ok, ◌⊎◌}
 use Rattle.std.specs.Fmt.{decimal}
 use Rattle.std.specs.FinMap as ledgers
 use Rattle.bk_head.specs.declared.fault.HeadFault.{HeadFault}
@@ -12,6 +12,11 @@ use Rattle.bk_disk.specs.Disk.{view_end}
 use Rattle.bk_inspect.specs.Heads.{NamesPast}
 use Rattle.bk_inspect.specs.Texts.{line}
 use Rattle.bk_inspect.specs.declared.fault.BytesFault.TheVariants.{Head, BadLength, CutShort, MapDiffers, Direct}
+use Rattle.bk_inspect.specs.declared.check.Health.{Health}
+use Rattle.bk_inspect.specs.declared.check.Health.TheVariants.{Short, Faulty, Unsealed, Sound}
+use Rattle.bk_inspect.specs.declared.check.Health.TheVariants.{MapDiffers as Differs}
+use Rattle.bk_inspect.specs.declared.header.Head.{Head as LogStart}
+use Rattle.bk_inspect.specs.declared.header.Head.TheVariants as starts
 use Rattle.bk_inspect.specs.declared.fault.BytesFault.{BytesFault}
 use Rattle.bk_inspect.specs.declared.fault.DirFault.{DirFault}
 use Rattle.bk_inspect.specs.declared.fault.DirFault.TheVariants.{Log, NoLog, Disk, Memory, Odd, Output, Unsteady, Closed}
@@ -92,6 +97,20 @@ ShortIf file header Odd = Unit {0}
 ShortIf file header Output = Unit {0}
 ShortIf file header Unsteady = Unit {0}
 ShortIf file header Closed = Unit {0}
+
+-- What `check` finds of the ledgers map of a log whose entries have these bytes by ledger.
+abbrev pub MapHealth : List ℕ → Header → LedgersMap → Health → Type 0
+MapHealth file header sizes Short = ⊥
+MapHealth file header sizes (Faulty fault) = ⊥
+MapHealth file header sizes (Unsealed torn) = IsMapIn file header None
+MapHealth file header sizes Differs = ¬ (IsMapIn file header (Some sizes))
+MapHealth file header sizes Sound = IsMapIn file header (Some sizes)
+
+-- The header of a log is invalid, or names no ledgers map, or the one that it names has these bytes by ledger.
+abbrev pub HasMapOf : List ℕ → LogStart → LedgersMap → Type 0
+HasMapOf file starts.Short sizes = Unit {0}
+HasMapOf file (starts.Bad fault) sizes = Unit {0}
+HasMapOf file (starts.Whole header) sizes = IsMapIn file header None ⊎ IsMapIn file header (Some sizes)
 
 -- the bytes parse as no map
 abbrev pub SpellsNoMap : List ℕ → Type 0

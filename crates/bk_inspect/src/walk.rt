@@ -7,6 +7,8 @@ ghost use Rattle.bk_record.specs.Location.{Place};
 ghost use Rattle.bk_record.specs.Record.{key_of};
 ghost use Rattle.bk_record.specs.Scan.{entries_of};
 ghost use Rattle.bk_inspect.specs.Heads.{JudgesHead};
+ghost use Rattle.bk_head.specs.Ledgers.{map_of};
+ghost use Rattle.bk_inspect.specs.Maps.{HasMapOf};
 ghost use Rattle.bk_inspect.specs.Reading.{OfFile, OnlyReads};
 ghost use Rattle.bk_inspect.specs.Walking.{entries_in_logs};
 ghost use Rattle.bk_inspect.specs.declared.fault.DirFault.TheVariants as faults;
@@ -138,12 +140,16 @@ fn refuse_map<V: LogView>(
     view: &V,
     head: Head,
     counted: &Counted,
-) -> Result<(), DirFault> {
+) -> Result<(), DirFault>
+    ensures { IsTrue (V.honest view.now)
+        → OnOk result (HasMapOf (V.bytes view.now) head (map_of counted.now.ledgers)) }
+{
     let Head::Whole(header) = head else {
         return Ok(());
     };
     match compare_map(alloc, view, &header, counted)? {
+        Health::Unsealed { .. } | Health::Sound => Ok(()),
         Health::MapDiffers => Err(DirFault::Log(BytesFault::MapDiffers)),
-        _ => Ok(()),
+        Health::Short | Health::Faulty(_) => Err(DirFault::Odd),
     }
 }
