@@ -147,6 +147,7 @@ Examples:
   help: './bookie seal --cut-torn' cuts off what is no record, and keeps a copy of the log
   $ ./bookie seal --cut-torn /var/bookie/current 31
   cut 31 at 1049 bytes 10 copy /var/bookie/current/1f.log.torn
+  kept 31 copy /var/bookie/current/1f.log.cut.0
   sealed 31 map 1049 count 1
   $ ./bookie check /var/bookie/current
   0 ok
