@@ -15,7 +15,7 @@ from power_runs import MARKER
 bookie = serve_faults.bookie
 
 # Faults of `check` that are of a log that was being sealed.
-MAP_FAULTS = re.compile(r"(\d+) (?:map differs|fault (?:negative number|not a map|map length|repeated|count differs).*)")
+MAP_FAULTS = re.compile(r"(\d+) (?:map differs|fault (?:negative number|not a map|map length|repeated|count differs|cut short).*)")
 
 
 class Operator(fault_runs.Program):

@@ -1,4 +1,8 @@
-"""The server's compaction in the background: one reader, and a client that is silent."""
+"""The server's compaction in the background: one reader, and a client that is silent. Commands that read beside it."""
+
+import itertools
+import threading
+from concurrent.futures import ThreadPoolExecutor
 
 import kit
 import log_files
@@ -6,6 +10,8 @@ from test_compaction import LEDGERS, content
 
 # Requests after each of which, as input waits, the server performs one step in the background.
 STRIDE = 256
+# Commands that check or count all logs.
+CHECKS = (["check"], ["check", "--quick"], ["stat"])
 
 
 class Background(kit.Case):
@@ -191,3 +197,33 @@ class Background(kit.Case):
         again = self.serve()
         found = {again.read(1, it) for it in range(64)}
         self.assertEqual((found, again.call("holds", ledger=2, entry=0).name), ({b"x"}, "no"))
+
+
+class Beside(kit.Case):
+    """`check` beside a server that seals and removes logs all the while."""
+
+    def work(self, opened, ended):
+        """Fills a log, seals it and deletes what it has, again and again. Counts the rounds."""
+        for ledger in itertools.count(1):
+            if ended.is_set():
+                return ledger - 1
+            opened.add(ledger, b"x" * 600)
+            opened.call("flush")
+            opened.call("seal")
+            opened.call("delete", ledger=ledger)
+            if ledger % 4 == 0:
+                opened.call("compact", minor=200, major=0)
+
+    def test_check_is_no_false_alarm(self):
+        opened, ended = self.serve(), threading.Event()
+        opened.add(0, b"stays")
+        opened.call("flush")
+        with ThreadPoolExecutor() as pool:
+            rounds = pool.submit(self.work, opened, ended)
+            try:
+                told = [self.call(*it, self.logs) for it in CHECKS * 8]
+            finally:
+                ended.set()
+        self.assertGreater(rounds.result(), len(told))
+        alarms = [it.stdout + it.stderr for it in told if it.returncode != 0]
+        self.assertEqual(alarms, [])

@@ -140,7 +140,6 @@ class Manifests(kit.Case):
         self.assertIn("fault manifest: ", errors)
         self.assertIn("manifest: ", page)
 
-    @unittest.expectedFailure  # `check --quick` notes the damaged manifest and ends with 0
     def test_damaged_manifest_of_logs_is_status_1_of_a_quick_check(self):
         kit.flip(self.logs / LOGS, 30)
         _, errors = self.bookie("check", "--quick", self.logs, status=1)
@@ -156,8 +155,8 @@ class Manifests(kit.Case):
             if words[0] == "ledgers":
                 self.assertEqual([it.split()[0] for it in out.splitlines()], ["1", "2", "3"])
         self.assertEqual(self.bookie("map", self.logs, "0")[1], "")
-        out, errors = self.bookie("ledgers", "--no-manifest", self.logs)
-        self.assertEqual(errors, "")
+        out, errors = self.bookie("ledgers", "--no-manifest", self.logs, status=1)
+        self.assertIn("fault log 1: not a map ", errors)
         self.assertEqual([it.split()[0] for it in out.splitlines()], ["1", "2", "3", "9"])
         self.assertIn("Ledgers<b>3</b>", self.bookie("report", self.logs)[0])
         self.assertIn(

@@ -1,6 +1,7 @@
 """Damaged logs and manifests: nothing that is there is lost, and nothing that was answered is
 forgotten, without a word."""
 
+import json
 import re
 import unittest
 
@@ -52,7 +53,6 @@ class Length(kit.Case):
         ran = self.call("script", "--folder", self.logs)
         self.assertIn(b"log 0", ran.stderr)
 
-    @unittest.expectedFailure  # `stat` and `ledgers` count four entries without a word
     def test_reading_commands_name_the_log(self):
         for word in ("stat", "ledgers"):
             self.assertIn(b"log 0", self.call(word, self.logs).stderr)
@@ -72,12 +72,10 @@ class Short(kit.Case):
         out, _ = self.bookie("check", self.logs, status=1)
         self.assertRegex(out, rf"^1 fault .*{self.map}")
 
-    @unittest.expectedFailure  # the text is that of a log whose sealing was interrupted
     def test_check_has_a_word_of_its_own(self):
         out, _ = self.bookie("check", self.logs, status=1)
         self.assertNotEqual(out, f"1 fault not a map {self.map}\n")
 
-    @unittest.expectedFailure  # `stat` and `ledgers` end with 0 and no word
     def test_reading_commands_name_the_log(self):
         for word in ("stat", "ledgers"):
             self.assertIn(b"log 1", self.call(word, self.logs).stderr)
@@ -87,18 +85,101 @@ class Short(kit.Case):
         (self.logs / "1.log").write_bytes(self.whole[: log_files.HEADER + 100])
         self.assertIn("unsealed 0 unfit 1", self.bookie("hint", self.logs)[0])
 
-    @unittest.expectedFailure  # lines say `fault` where the status is 0
     def test_fault_is_status_1_with_a_live_list(self):
         (self.room / "live").write_text("2\n")
         ran = self.call("stat", "--live-file", self.room / "live", self.logs)
         self.assertTrue(ran.returncode == 1 or b"fault" not in ran.stderr, ran.stderr)
 
-    @unittest.expectedFailure  # a second copy is left that no line names
+    def test_each_command_ends_with_1(self):
+        for words in (["stat"], ["ledgers"], ["find", 2, 0], ["entries", 2], ["export", 2], ["report"]):
+            _, errors = self.bookie(words[0], self.logs, *words[1:], status=1)
+            self.assertIn(f"fault log 1: cut short at 2000 map {self.map} missing ", errors)
+        self.assertIn(f"1 {2000} cut", self.bookie("logs", self.logs)[0])
+
+    def test_json_has_the_missing_bytes(self):
+        out, _ = self.bookie("--json", "check", self.logs, status=1)
+        wanted = {"log": 1, "health": "fault", "fault": "cut short", "at": 2000, "map": self.map}
+        self.assertEqual(json.loads(out), {**wanted, "missing": self.map - 2000})
+
+    def test_cut_reports_what_is_lost(self):
+        out, _ = self.bookie("seal", "--cut-torn", self.logs, "1")
+        self.assertIn(f"lost 1 at 2000 bytes {self.map - 2000}\n", out)
+        self.assertEqual(self.bookie("check", self.logs)[0], "1 ok\n")
+
+    def test_map_that_is_not_durable_is_none(self):
+        """A log that a server is sealing: its header names a map that is not recorded yet."""
+        (self.logs / "1.log").write_bytes(self.whole)
+        durable = manifest_files.written(1, [("made", 1), ("durable", 1, self.map)])
+        (self.logs / "logs.manifest").write_bytes(durable)
+        self.assertEqual(self.bookie("check", self.logs)[0], "1 unsealed\n")
+        self.assertIn(" open\n", self.bookie("logs", self.logs)[0])
+        self.assertEqual(self.bookie("check", "--no-manifest", self.logs)[0], "1 ok\n")
+
     def test_cut_names_each_copy(self):
         (self.logs / "1.log").write_bytes(log_files.open_log(LIVE, b"\0\0\0\x50torn"))
         out, errors = self.bookie("seal", "--cut-torn", self.logs, "1")
         copies = [it for it in self.files() if it.startswith("1.log.")]
         self.assertEqual([it for it in copies if it not in out + errors], [])
+
+
+class Copies(kit.Case):
+    """Copies that repairs left: `check` lists them, and whether what they are copies of is there."""
+
+    def test_check_lists_them(self):
+        log_files.write(self.logs, {1: LIVE[:3]})
+        names = ["1.log.torn", "1.log.cut.0", "1b.log.cut.12", "1.log.again", "logs.manifest.damaged"]
+        for it in [*names, "1.log.tor", "x.log.torn", "1.log", "notes.torn"]:
+            if it != "1.log":
+                (self.logs / it).write_bytes(b"12345")
+        out, errors = self.bookie("check", self.logs)
+        self.assertEqual(out, "1 ok\n")
+        is_there = {it: "is" if it.startswith("1.log") else "is not" for it in names}
+        wanted = [
+            f"note copy {self.logs}/{it}: 5 bytes, {it[: it.index(mark)]} {is_there[it]} there"
+            for it in sorted(names)
+            for mark in [".torn", ".cut", ".again", ".damaged"]
+            if mark in it
+        ]
+        self.assertEqual(errors.splitlines(), wanted)
+        self.assertEqual(self.bookie("stat", self.logs)[1], "")
+
+    def test_as_json(self):
+        log_files.write(self.logs, {2: LIVE[:3]})
+        (self.logs / "1f.log.torn").write_bytes(b"12345")
+        _, errors = self.bookie("--json", "check", "--quick", self.logs)
+        wanted = {"note": "copy", "file": f"{self.logs}/1f.log.torn", "bytes": 5, "of": "1f.log"}
+        self.assertEqual(json.loads(errors), {**wanted, "log": 31, "stands": False})
+
+
+class Direct(kit.Case):
+    """A log of BookKeeper's direct writer: blocks of 4096 bytes, padded with f0, then zeros."""
+
+    def setUp(self):
+        super().setUp()
+        self.logs.mkdir()
+        filler = (3068).to_bytes(4, "big") + b"\xff" * 8
+        data = log_files.open_log([]) + filler
+        data += bytes(4096 - len(data))
+        for first in (0, 2):
+            data += log_files.records(LIVE[first : first + 2])
+            data += b"\xf0" * (-len(data) % 4096)
+        (self.logs / "1.log").write_bytes(data + bytes(4096))
+        self.before = self.files()
+
+    def test_it_is_named(self):
+        at = 4096 + len(log_files.records(LIVE[:2]))
+        why = f"written by the direct writer {at}"
+        self.assertEqual(self.bookie("check", self.logs, status=1)[0], f"1 fault {why}\n")
+        for words in (["stat"], ["ledgers"], ["find", 2, 0], ["export", 2], ["report"]):
+            _, errors = self.bookie(words[0], self.logs, *words[1:], status=1)
+            self.assertIn(f"fault log 1: {why}", errors)
+
+    def test_seal_refuses_it(self):
+        for option in ([], ["--cut-torn"]):
+            _, errors = self.bookie("seal", *option, "--no-manifest", self.logs, "1", status=1)
+            self.assertIn("written by the direct writer", errors)
+            self.assertNotIn("cuts off", errors)
+        self.assertEqual(self.files(), self.before)
 
 
 class Ledgers(kit.Case):

@@ -25,7 +25,6 @@ class Missing(kit.Case):
         self.assertIn("durable bytes missing: log 0 with 1089 durable bytes is missing", errors)
         self.assertEqual((out, self.files()), ("", self.before))
 
-    @unittest.expectedFailure  # `check --quick` notes the missing log and ends with 0
     def test_quick_check_ends_with_1(self):
         _, errors = self.bookie("check", "--quick", self.logs, status=1)
         self.assertIn("durable bytes missing: log 0 with 1089 durable bytes is missing", errors)
@@ -52,7 +51,6 @@ class Missing(kit.Case):
     def test_compact_refuses(self):
         self.bookie("compact", self.logs, status=1)
 
-    @unittest.expectedFailure  # `report` says that no fault was found, and ends with 0
     def test_report_names_the_fault(self):
         self.bookie("report", self.logs, status=1)
 
@@ -65,11 +63,23 @@ class Missing(kit.Case):
 class Wrong(kit.Case):
     """A directory that is not one of entry logs, or one of a stock bookie."""
 
-    @unittest.expectedFailure  # reading commands end with 0 on a directory without logs
     def test_directory_without_logs_is_status_1(self):
         log_files.write(self.logs, {0: HELLO})
         for word in ("check", "stat", "ledgers", "logs"):
             self.bookie(word, self.room, status=1)
+
+    def test_directory_above_is_named(self):
+        log_files.write(self.room / "current", {0: HELLO})
+        for word in ("check", "report"):
+            _, errors = self.bookie(word, self.room, status=1)
+            self.assertIn(f"fault no log found in {self.room}: ", errors)
+            self.assertIn(f"help: {self.room}/current has logs", errors)
+
+    def test_emptied_directory_of_a_store_is_status_0(self):
+        self.publish("1 0 hello")
+        self.bookie("compact", "--dead", "1", self.logs)
+        out, errors = self.bookie("check", self.logs)
+        self.assertEqual((out, "no log found" in errors), ("", True))
 
     @unittest.expectedFailure  # writing commands begin a store in it without a word
     def test_parent_of_a_directory_is_not_written(self):

@@ -1,6 +1,6 @@
 -- A map that a log's header names and that is not there: the first fault in its bytes, found piece by piece.
 use Rattle.std.proofs.Common.{◌≡◌, ◌≢◌, ℕ, ◌+◌, ◌-◌, ◌*◌, ◌<◌, ◌≤◌, ◌^◌, List, [], ◌∷◌, ◌++◌, length, take, drop, sym, ap, ap₂, ◌∙◌, subst, arith, append_assoc, length-drop}
-use Rattle.std.proofs.Common.{Option, Some, None, Result, Ok, Err, Bool, true, false, ◌&&◌, ◌==◌, BTreeMap, nat_cmp}
+use Rattle.std.proofs.Common.{Option, Some, None, Result, Ok, Err, Bool, true, false, ◌&&◌, ◌==◌, IsTrue, ◌↔◌, BTreeMap, nat_cmp}
 use Rattle.std.specs.BTreeMap as tree
 use Rattle.std.specs.Cmp.{unsigned_Decides}
 use Rattle.std.specs.Cmp.Lexicographic.{pointwise}
@@ -162,6 +162,9 @@ pub pairs_lost : (offset at : ℕ) (tail batch : List ℕ) (m : LedgersMap) (fau
     → HasPairs (drop at tail) batch → PairFaultIf s.pairs batch fault → IfBytes fault (SpellsNoMap tail)
 pairs_lost offset at tail batch m (faults.Log (bytes_faults.Head why)) within s has h = pair_lost offset at tail batch m why within s has h
 pairs_lost offset at tail batch m (faults.Log (bytes_faults.BadLength place length)) within s has h = absurd h
+pairs_lost offset at tail batch m (faults.Log (bytes_faults.CutShort place map)) within s has h = absurd h
+pairs_lost offset at tail batch m (faults.Log bytes_faults.MapDiffers) within s has h = absurd h
+pairs_lost offset at tail batch m (faults.Log (bytes_faults.Direct place)) within s has h = absurd h
 pairs_lost offset at tail batch m faults.NoLog within s has h = tt
 pairs_lost offset at tail batch m faults.Disk within s has h = tt
 pairs_lost offset at tail batch m faults.Memory within s has h = tt
@@ -251,6 +254,15 @@ add_lost file offset at count m fault within s has h =
     let here : drop (offset + (at + 24)) file ≡ drop 24 (drop at tail) = sym (drop-drop (at + 24) offset file) ∙ sym (drop-drop 24 at tail) in
     pairs_lost offset at tail (take (16 * count) (drop 24 (drop at tail))) m fault within s has
     (subst (λ (x : List ℕ). PairFaultIf s.pairs (take (16 * count) x) fault) here h)
+
+-- two maps with the same pairs are the same, and the other way round
+pub same_map : (m n : BTreeMap ℕ ℕ) (same : Bool) → same ≡ pointwise (λ (p q : ℕ × ℕ). (p.0 == q.0) && (p.1 == q.1)) m.entries n.entries
+    → tree.IsOrdered nat_cmp m → tree.IsOrdered nat_cmp n → IsTrue same ↔ (map_of m ≡ map_of n)
+same_map m n same is ordered ordered' = (
+  λ yes. ap (λ (es : List (ℕ × ℕ)). ledgers.from_entries {R = nat_cmp} es) ((btree_map_eq-Decides unsigned_Decides unsigned_Decides m n same is).0 yes),
+  λ e. (btree_map_eq-Decides unsigned_Decides unsigned_Decides m n same is).1
+      (sym (entries-map_of m ordered) ∙ ap (λ (x : LedgersMap). ledgers.entries x) e ∙ entries-map_of n ordered'),
+)
 
 -- two maps that differ
 pub other_map : (m n : BTreeMap ℕ ℕ) (same : Bool) → same ≡ pointwise (λ (p q : ℕ × ℕ). (p.0 == q.0) && (p.1 == q.1)) m.entries n.entries

@@ -13,7 +13,7 @@ use Rattle.bk_inspect.specs.Reading.{OfFile}
 use Rattle.bk_inspect.specs.Shown.{AreLines, WritesText}
 use Rattle.bk_inspect.specs.Shown.AreLines.{none}
 use Rattle.bk_inspect.specs.Walking.{TakesTurn}
-use Rattle.bk_inspect.specs.declared.fault.BytesFault.TheVariants.{Head, BadLength}
+use Rattle.bk_inspect.specs.declared.fault.BytesFault.TheVariants.{Head, BadLength, CutShort, MapDiffers, Direct}
 use Rattle.bk_inspect.specs.declared.header.Head.{Head as LogStart}
 use Rattle.bk_inspect.specs.declared.header.Head.TheVariants.{Whole}
 use Rattle.bk_inspect.specs.declared.quick.Outline.{Outline}
@@ -97,6 +97,9 @@ outline_is : (file : List ℕ) (header : Header) (outline : Outline) → IsHead 
 outline_is file header Short head is = absurd is
 outline_is file header (Faulty (Head fault)) head is = inr (header, head, is)
 outline_is file header (Faulty (BadLength at long)) head is = (header, head, is)
+outline_is file header (Faulty (CutShort at place)) head is = (header, head, is)
+outline_is file header (Faulty MapDiffers) head is = (header, head, is)
+outline_is file header (Faulty (Direct at)) head is = (header, head, is)
 outline_is file header Unsealed head is = (header, head, is)
 outline_is file header Sealed head is = (header, head, is)
 

@@ -29,18 +29,23 @@ IsHeadOf file found = (found.length ≡ length file) × IsHead file found.head
 abbrev pub NamesNoMap : Header → Type 0
 NamesNoMap header = (header.map_offset ≡ pos 0) × (header.count ≡ pos 0)
 
--- the state that a header says
-abbrev pub HeadState : Head → LogStanding → Type 0
-HeadState Short state = state ≡ states.Short
-HeadState (Bad fault) state = state ≡ states.Bad
-HeadState (Whole header) states.Open = NamesNoMap header
-HeadState (Whole header) states.Sealed = ¬ (NamesNoMap header)
-HeadState (Whole header) states.Short = ⊥
-HeadState (Whole header) states.Bad = ⊥
+-- the header of a log of `end` bytes names a ledgers map past them
+abbrev pub NamesPast : ℕ → Header → Type 0
+NamesPast end header = (map : ℕ) × ((header.map_offset ≡ pos map) × (end < map))
+
+-- the state that a header says of a log of `end` bytes
+abbrev pub HeadState : ℕ → Head → LogStanding → Type 0
+HeadState end Short state = state ≡ states.Short
+HeadState end (Bad fault) state = state ≡ states.Bad
+HeadState end (Whole header) states.Open = NamesNoMap header
+HeadState end (Whole header) states.Cut = ¬ (NamesNoMap header) × NamesPast end header
+HeadState end (Whole header) states.Sealed = ¬ (NamesNoMap header) × ¬ (NamesPast end header)
+HeadState end (Whole header) states.Short = ⊥
+HeadState end (Whole header) states.Bad = ⊥
 
 -- the state of a log with these bytes
 abbrev pub HasState : List ℕ → LogStanding → Type 0
-HasState file state = (head : Head) × IsHead file head × HeadState head state
+HasState file state = (head : Head) × IsHead file head × HeadState (length file) head state
 
 abbrev pub IsJudged : Head → ℕ → Type 0
 IsJudged Short status = status ≡ 0

@@ -1,5 +1,5 @@
 -- The ledgers map in a log.
-use Rattle.std.specs.Prelude.{ℕ, ℤ, pos, negsuc, List, [], ◌++◌, drop, flat_map, codes, Option, Some, None, Ok}
+use Rattle.std.specs.Prelude.{◌≡◌, ℕ, ◌<◌, ℤ, pos, negsuc, List, [], ◌++◌, drop, flat_map, codes, Option, Some, None, Ok, ◌⊎◌}
 use Rattle.std.specs.Fmt.{decimal}
 use Rattle.std.specs.FinMap as ledgers
 use Rattle.bk_head.specs.declared.fault.HeadFault.{HeadFault}
@@ -9,8 +9,15 @@ use Rattle.bk_head.specs.Ledgers.{LedgersMap, SpellsMap}
 use Rattle.bk_head.specs.Faults.{PairFault}
 use Rattle.bk_head.specs.Reading.{MapAnswer}
 use Rattle.bk_disk.specs.Disk.{view_end}
+use Rattle.bk_inspect.specs.Heads.{NamesPast}
 use Rattle.bk_inspect.specs.Texts.{line}
-use Rattle.bk_inspect.specs.declared.fault.BytesFault.TheVariants.{Head, BadLength}
+use Rattle.bk_inspect.specs.declared.fault.BytesFault.TheVariants.{Head, BadLength, CutShort, MapDiffers, Direct}
+use Rattle.bk_inspect.specs.declared.check.Health.{Health}
+use Rattle.bk_inspect.specs.declared.check.Health.TheVariants.{Short, Faulty, Unsealed, Sound}
+use Rattle.bk_inspect.specs.declared.check.Health.TheVariants.{MapDiffers as Differs}
+use Rattle.bk_inspect.specs.declared.header.Head.{Head as LogStart}
+use Rattle.bk_inspect.specs.declared.header.Head.TheVariants as starts
+use Rattle.bk_inspect.specs.declared.fault.BytesFault.{BytesFault}
 use Rattle.bk_inspect.specs.declared.fault.DirFault.{DirFault}
 use Rattle.bk_inspect.specs.declared.fault.DirFault.TheVariants.{Log, NoLog, Disk, Memory, Odd, Output, Unsteady, Closed}
 
@@ -49,6 +56,9 @@ IfBytes Closed P = Unit {0}
 abbrev pub PairFaultIf : List (ℕ × ℕ) → List ℕ → DirFault → Type 0
 PairFaultIf before bytes (Log (Head why)) = PairFault before bytes why
 PairFaultIf before bytes (Log (BadLength at length)) = ⊥
+PairFaultIf before bytes (Log (CutShort at map)) = ⊥
+PairFaultIf before bytes (Log MapDiffers) = ⊥
+PairFaultIf before bytes (Log (Direct at)) = ⊥
 PairFaultIf before bytes NoLog = Unit {0}
 PairFaultIf before bytes Disk = Unit {0}
 PairFaultIf before bytes Memory = Unit {0}
@@ -60,6 +70,47 @@ PairFaultIf before bytes Closed = Unit {0}
 -- no map is in the log where its header names one
 abbrev pub HasNoMapIn : List ℕ → Header → Type 0
 HasNoMapIn file header = (map : LedgersMap) → ¬ (IsMapIn file header (Some map))
+
+-- The log ends at byte `at`, and its header names a map further on, at byte `map`: the bytes between are missing.
+abbrev pub IsCutShort : List ℕ → Header → ℕ → ℕ → Type 0
+IsCutShort file header at map = (at ≡ view_end file) × ((header.map_offset ≡ pos map) × (at < map))
+
+-- the fault of a log of `end` bytes whose header names no place for a map in it: cut short exactly if that place is past the end
+abbrev pub PlaceFault : ℕ → Header → HeadFault → BytesFault → Type 0
+PlaceFault end header why (CutShort at map) = (at ≡ end) × ((header.map_offset ≡ pos map) × (end < map))
+PlaceFault end header why (Head told) = ¬ (NamesPast end header) × (told ≡ why)
+PlaceFault end header why (BadLength at length) = ⊥
+PlaceFault end header why MapDiffers = ⊥
+PlaceFault end header why (Direct at) = ⊥
+
+-- the fault of a map, if it says that the log is cut short, is right
+abbrev pub ShortIf : List ℕ → Header → DirFault → Type 0
+ShortIf file header (Log (CutShort at map)) = IsCutShort file header at map
+ShortIf file header (Log (Head why)) = Unit {0}
+ShortIf file header (Log (BadLength at length)) = ⊥
+ShortIf file header (Log MapDiffers) = ⊥
+ShortIf file header (Log (Direct at)) = ⊥
+ShortIf file header NoLog = Unit {0}
+ShortIf file header Disk = Unit {0}
+ShortIf file header Memory = Unit {0}
+ShortIf file header Odd = Unit {0}
+ShortIf file header Output = Unit {0}
+ShortIf file header Unsteady = Unit {0}
+ShortIf file header Closed = Unit {0}
+
+-- What `check` finds of the ledgers map of a log whose entries have these bytes by ledger.
+abbrev pub MapHealth : List ℕ → Header → LedgersMap → Health → Type 0
+MapHealth file header sizes Short = ⊥
+MapHealth file header sizes (Faulty fault) = ⊥
+MapHealth file header sizes (Unsealed torn) = IsMapIn file header None
+MapHealth file header sizes Differs = ¬ (IsMapIn file header (Some sizes))
+MapHealth file header sizes Sound = IsMapIn file header (Some sizes)
+
+-- The header of a log is invalid, or names no ledgers map, or the one that it names has these bytes by ledger.
+abbrev pub HasMapOf : List ℕ → LogStart → LedgersMap → Type 0
+HasMapOf file starts.Short sizes = Unit {0}
+HasMapOf file (starts.Bad fault) sizes = Unit {0}
+HasMapOf file (starts.Whole header) sizes = IsMapIn file header None ⊎ IsMapIn file header (Some sizes)
 
 -- the bytes parse as no map
 abbrev pub SpellsNoMap : List ℕ → Type 0

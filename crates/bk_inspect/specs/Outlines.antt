@@ -5,18 +5,22 @@ use Rattle.std.specs.Fmt.{decimal, with_newline}
 use Rattle.bk_record.specs.Files.{Files}
 use Rattle.bk_head.specs.declared.header.Header.{Header}
 use Rattle.bk_head.specs.Ledgers.{LedgersMap}
-use Rattle.bk_inspect.specs.declared.fault.BytesFault.TheVariants.{Head, BadLength}
+use Rattle.bk_inspect.specs.declared.fault.BytesFault.TheVariants.{Head, BadLength, CutShort, MapDiffers, Direct}
 use Rattle.bk_inspect.specs.declared.header.Head.TheVariants as heads
 use Rattle.bk_inspect.specs.declared.quick.Outline.{Outline}
 use Rattle.bk_inspect.specs.declared.quick.Outline.TheVariants.{Short, Faulty, Unsealed, Sealed}
 use Rattle.bk_inspect.specs.Heads.{IsHead}
-use Rattle.bk_inspect.specs.Maps.{HasNoMapIn, IsMapIn}
+use Rattle.bk_inspect.specs.Maps.{HasNoMapIn, IsCutShort, IsMapIn}
 use Rattle.bk_inspect.specs.Reading.{OfFile}
 
 -- what the ledgers map of a log with this header is
 abbrev pub MapOutline : List ℕ → Header → Outline → Type 0
 MapOutline file header Short = ⊥
-MapOutline file header (Faulty fault) = HasNoMapIn file header
+MapOutline file header (Faulty (Head fault)) = HasNoMapIn file header
+MapOutline file header (Faulty (BadLength at length)) = ⊥
+MapOutline file header (Faulty (CutShort at map)) = IsCutShort file header at map
+MapOutline file header (Faulty MapDiffers) = ⊥
+MapOutline file header (Faulty (Direct at)) = ⊥
 MapOutline file header Unsealed = IsMapIn file header None
 MapOutline file header Sealed = (map : LedgersMap) × IsMapIn file header (Some map)
 
@@ -30,6 +34,9 @@ abbrev pub HasOutline : List ℕ → Outline → Type 0
 HasOutline file Short = IsHead file heads.Short
 HasOutline file (Faulty (Head fault)) = IsHead file (heads.Bad fault) ⊎ OfHeader file (λ header. MapOutline file header (Faulty (Head fault)))
 HasOutline file (Faulty (BadLength at length)) = OfHeader file (λ header. MapOutline file header (Faulty (BadLength at length)))
+HasOutline file (Faulty (CutShort at map)) = OfHeader file (λ header. MapOutline file header (Faulty (CutShort at map)))
+HasOutline file (Faulty MapDiffers) = OfHeader file (λ header. MapOutline file header (Faulty MapDiffers))
+HasOutline file (Faulty (Direct at)) = OfHeader file (λ header. MapOutline file header (Faulty (Direct at)))
 HasOutline file Unsealed = OfHeader file (λ header. MapOutline file header Unsealed)
 HasOutline file Sealed = OfHeader file (λ header. MapOutline file header Sealed)
 

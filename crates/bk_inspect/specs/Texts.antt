@@ -5,12 +5,13 @@ use Rattle.bk_record.specs.Record.{ledger_field, entry_field}
 use Rattle.bk_record.specs.Scan.{entries_of, foreign_of, torn_of}
 use Rattle.bk_head.specs.declared.header.Header.{Header}
 use Rattle.bk_inspect.specs.declared.listing.LogStanding.{LogStanding}
-use Rattle.bk_inspect.specs.declared.listing.LogStanding.TheVariants.{Short, Bad, Open, Sealed}
+use Rattle.bk_inspect.specs.declared.listing.LogStanding.TheVariants.{Short, Bad, Open, Cut, Sealed}
 
 abbrev pub state_text : LogStanding → List ℕ
 state_text Short = codes "short"
 state_text Bad = codes "bad"
 state_text Open = codes "open"
+state_text Cut = codes "cut"
 state_text Sealed = codes "sealed"
 
 -- a row, and the end of its line

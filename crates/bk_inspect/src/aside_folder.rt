@@ -4,9 +4,10 @@
 ghost use Rattle.std.specs.Prelude.{◌/◌, ◌≤◌, false};
 ghost use Rattle.std.specs.FinMap as map;
 
+use crate::beside::cuts_of;
 use crate::cut_folder::{Failed, Refused, log_path, refuse, tried};
 use crate::cutting::{Aside, FailedCall};
-use bk_disk::{DiskFault, Operation};
+use bk_disk::{DiskFault, Operation, name_of};
 use std::alloc::{AllocError, Global};
 use std::fs::{self, File, OpenOptions};
 use std::io::{self, ErrorKind, Write};
@@ -168,6 +169,10 @@ impl<'a> Aside for AsideFolder<'a> {
 
     fn draft_place(&self, alloc: Global, log: u32) -> Result<String, AllocError> {
         path_of(alloc, self.path, log, DRAFT)
+    }
+
+    fn others(&self, alloc: Global, log: u32) -> Result<Vec<String>, AllocError> {
+        cuts_of(&self.rt, alloc, self.path, &name_of(alloc, log)?)
     }
 
     fn copy_reason(&self, alloc: Global) -> Result<Option<FailedCall>, AllocError> {

@@ -1,6 +1,8 @@
 //! `check`: whether each log is valid, and its ledgers map that of its entries.
 
-ghost use Rattle.std.specs.Prelude.{◌≤◌, IfOk};
+ghost use Rattle.std.specs.Prelude.{◌≡◌, ◌≤◌, ◌↔◌, IfOk, IsTrue};
+ghost use Rattle.bk_head.specs.Ledgers.{map_of};
+ghost use Rattle.bk_inspect.specs.Maps.{MapHealth};
 ghost use Rattle.bk_inspect.specs.Reading.{OnlyReads};
 
 use crate::calls::view_of;
@@ -10,13 +12,14 @@ use crate::header::{Head, read_head};
 use crate::ledgers::{Counted, counted_ledgers};
 use crate::turns::Turns;
 use crate::walk::TakesEntries;
-use crate::written::written_ledgers;
+use crate::written::named_ledgers;
 use crate::{BytesFault, DirFault, Form};
 use bk_disk::{LogDisk, LogView};
 use bk_head::Header;
 use bk_log::Found;
 use serde::Serialize;
 use std::alloc::{AllocError, Global};
+use std::collections::BTreeMap;
 use std::fmt;
 use std::fmt::{Display, Formatter};
 use std::io::Write;
@@ -212,10 +215,25 @@ pub(crate) fn compare_map<V: LogView>(
     view: &V,
     header: &Header,
     counted: &Counted,
-) -> Result<Health, DirFault> {
-    match written_ledgers(alloc, view, header)? {
-        None => Ok(Health::Unsealed { torn: counted.torn }),
-        Some(written) if written == counted.ledgers => Ok(Health::Sound),
-        Some(_) => Ok(Health::MapDiffers),
+) -> Result<Health, DirFault>
+    ensures { IsTrue (V.honest view.now)
+        → IfOk result (MapHealth (V.bytes view.now) header.now (map_of counted.now.ledgers)) }
+{
+    let Some(written) = named_ledgers(alloc, view, header)? else {
+        return Ok(Health::Unsealed { torn: counted.torn });
+    };
+    if are_same(&written, &counted.ledgers) {
+        Ok(Health::Sound)
+    } else {
+        Ok(Health::MapDiffers)
     }
+}
+
+/// Returns whether two maps have the same bytes by ledger.
+fn are_same(one: &BTreeMap<u64, u64>, other: &BTreeMap<u64, u64>) -> bool
+    ensures { IsTrue result ↔ (map_of one.now ≡ map_of other.now) }
+{
+    // (that both are ordered)
+    let (_, _) = (one.len(), other.len());
+    *one == *other
 }

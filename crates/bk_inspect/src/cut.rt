@@ -17,9 +17,10 @@ ghost use Rattle.bk_inspect.specs.Cutting.{CutTransition, EndsWholeAt, IsChange,
 use crate::aside::{CopyFault, copy_log};
 use crate::calls::view_of;
 use crate::cutting::{Aside, CutDisk};
+use crate::direct::PADDING;
 use crate::front::Front;
 use crate::header::{HEADER, Head, read_head};
-use crate::seal::{GREATEST, Refusal, SealFault, VERSION, patch, sync, whole_sizes};
+use crate::seal::{GREATEST, Refusal, SealFault, VERSION, patch, refuse_direct, sync, whole_sizes};
 use crate::written::written_ledgers;
 use crate::{BytesFault, DirFault};
 use bk_disk::{LogDisk, LogView};
@@ -146,6 +147,7 @@ fn find_cut<D: LogDisk>(alloc: Global, disk: &mut D, log: u32) -> Result<Cut, Se
     let found = read_head(alloc, disk, log)?;
     let header = whole_head(found.head)?;
     let view = view_of(alloc, disk, log)?;
+    refuse_direct(alloc, &view)?;
     let end = view.end().max(HEADER);
     if end > GREATEST {
         return Err(SealFault::Refused(Refusal::TooLong(end)));
@@ -225,7 +227,8 @@ fn is_of_entries<V: LogView>(
     Ok(*map == sizes)
 }
 
-/// Returns the end of the last whole record of a view, which ends at `end`.
+/// Returns the end of the last whole record of a view, which ends at `end`. Refuses one that the
+/// direct writer wrote.
 fn whole_end<V: LogView>(alloc: Global, view: &V, end: u64) -> Result<u64, SealFault>
     requires headed { HEADER ≤ end }
     requires whole { IsTrue (V.honest view.now) → end ≡ view_end (V.bytes view.now) }
@@ -234,7 +237,7 @@ fn whole_end<V: LogView>(alloc: Global, view: &V, end: u64) -> Result<u64, SealF
 {
     match torn_in(alloc, view, end) {
         Ok(torn) => Ok(end.saturating_sub(torn)),
-        Err(ScanFault::BadLength { at, .. }) => Ok(at),
+        Err(ScanFault::BadLength { at, length }) if length != PADDING => Ok(at),
         Err(fault) => Err(SealFault::from(fault)),
     }
 }

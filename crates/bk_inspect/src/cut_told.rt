@@ -4,6 +4,7 @@ use crate::cut::{Cut, CutFault, NamedMap};
 use crate::cutting::{Aside, CutDisk, FailedCall};
 use crate::fault::{tell_end, tell_fault};
 use crate::form::write_row;
+use crate::header::map_past;
 use crate::seal_run::tell_unsealed;
 use crate::{DirFault, Form};
 use bk_disk::FaultWatch;
@@ -53,7 +54,51 @@ impl Display for ClearedRow<'_> {
     }
 }
 
-/// Writes what was cut off a log, and what its header named if it was cleared, and flushes.
+/// The row of a log whose file ended before the map that its header named.
+#[derive(Clone, Copy, Serialize)]
+struct LostRow {
+    log: u32,
+    state: &'static str,
+    at: u64,
+    bytes: u64,
+}
+
+impl Display for LostRow {
+    fn fmt<W: fmt::Write>(&self, f: &mut Formatter<W>) -> fmt::Result {
+        write!(f, "lost {} at {} bytes {}", self.log, self.at, self.bytes)
+    }
+}
+
+impl LostRow {
+    /// Returns the row of a log that was cut; `None` if its file had all bytes before its map.
+    fn of(log: u32, cut: &Cut) -> Option<LostRow> {
+        let at = cut.at.saturating_add(cut.bytes);
+        let bytes = map_past(at, &cut.header)?.saturating_sub(at);
+        Some(LostRow {
+            log,
+            state: "lost",
+            at,
+            bytes,
+        })
+    }
+}
+
+/// The row of a further copy of bytes that were cut off.
+#[derive(Clone, Copy, Serialize)]
+struct CopyRow<'a> {
+    log: u32,
+    state: &'static str,
+    copy: &'a str,
+}
+
+impl Display for CopyRow<'_> {
+    fn fmt<W: fmt::Write>(&self, f: &mut Formatter<W>) -> fmt::Result {
+        write!(f, "kept {} copy {}", self.log, self.copy)
+    }
+}
+
+/// Writes what was cut off a log, what its header named if it was cleared, which bytes its file had
+/// lost before, and the further copies; flushes.
 pub(crate) fn show_cut<A: Aside, W: Write>(
     alloc: Global,
     form: Form,
@@ -79,6 +124,17 @@ pub(crate) fn show_cut<A: Aside, W: Write>(
             state: "cleared",
             map: cut.header.map_offset,
             count: cut.header.count,
+            copy: copy.as_str(),
+        };
+        write_row(alloc, form, &row, writer)?;
+        if let Some(row) = LostRow::of(log, cut) {
+            write_row(alloc, form, &row, writer)?;
+        }
+    }
+    for copy in &aside.others(alloc, log).map_err(|_| DirFault::Memory)? {
+        let row = CopyRow {
+            log,
+            state: "kept",
             copy: copy.as_str(),
         };
         write_row(alloc, form, &row, writer)?;

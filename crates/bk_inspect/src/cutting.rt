@@ -131,6 +131,10 @@ pub trait Aside: Drop {
     /// Returns where the draft of a log's copy is, or would be. The only error is out of memory.
     fn draft_place(&self, alloc: Global, log: u32) -> Result<String, AllocError>;
 
+    /// Returns where further copies of a log's bytes are, which cutting it left. The only error is out
+    /// of memory.
+    fn others(&self, alloc: Global, log: u32) -> Result<Vec<String>, AllocError>;
+
     /// Returns the last call of the system that failed. The only error is out of memory.
     fn copy_reason(&self, alloc: Global) -> Result<Option<FailedCall>, AllocError>;
 }

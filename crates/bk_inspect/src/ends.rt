@@ -3,14 +3,13 @@
 ghost use Rattle.std.specs.Prelude.{IsTrue};
 
 use crate::Form;
+use crate::durable_disk::DurableDisk;
 use crate::ignored::{
     tell_ignored, tell_lack, tell_not_compared, tell_unread_length, tell_unread_manifest,
 };
 use bk_disk::{DirDisk, DiskFault, LogDisk};
 use bk_manifest::{LogState, Record, State};
-use bk_manifest_disk::{
-    Finding, Lack, LimitedDisk, ReadFault, Report, finding_of, read_logs, report_of,
-};
+use bk_manifest_disk::{Finding, Lack, ReadFault, Report, finding_of, read_logs, report_of};
 use std::alloc::{AllocError, Global};
 use std::collections::BTreeMap;
 use std::io::Write;
@@ -26,8 +25,10 @@ pub enum Ends {
 
 /// The disk of a directory that is read.
 #[derive(Drop)]
-pub(crate) struct Ended {
-    pub(crate) disk: LimitedDisk<DirDisk>,
+pub(crate) struct Ended<'a> {
+    pub(crate) disk: DurableDisk<'a>,
+    /// The durable bytes that are missing.
+    pub(crate) lacks: Vec<Lack>,
     /// Whether durable bytes are missing, or the manifest cannot be read.
     pub(crate) is_doubted: bool,
 }
@@ -121,7 +122,8 @@ fn compared(
 }
 
 /// Reads the manifest of a directory and compares it with the logs. If durable bytes are missing, does
-/// so once more, since a program that works there may have recorded that it removes the log.
+/// so once more, since a program that works there may have recorded that it removes the log. Bytes are
+/// missing if they are both times: a removal is recorded before the file goes.
 fn look_up(
     rt: &HostRuntime,
     path: &str,
@@ -134,21 +136,44 @@ fn look_up(
         return Ok(look);
     }
     let state = read_logs(rt, path)?;
-    Ok(compared(rt.alloc(), disk, &state, only)?)
+    let mut again = compared(rt.alloc(), disk, &state, only)?;
+    again.lacks = both_in(rt.alloc(), &look.lacks, again.lacks)?;
+    Ok(again)
+}
+
+/// Returns those of the later lacks whose log is among the earlier ones.
+fn both_in(alloc: Global, earlier: &[Lack], later: Vec<Lack>) -> Result<Vec<Lack>, AllocError> {
+    let mut lacks = Vec::new(alloc);
+    for lack in later {
+        if earlier
+            .iter()
+            .any(|one| log_lacking(one) == log_lacking(&lack))
+        {
+            lacks.push(lack)?;
+        }
+    }
+    Ok(lacks)
+}
+
+/// Returns the log of which bytes are missing.
+fn log_lacking(lack: &Lack) -> u32 {
+    match lack {
+        Lack::Shorter { log, .. } | Lack::Missing { log, .. } => *log,
+    }
 }
 
 /// Returns the disk of the directory at a path, whose logs end as asked. Reports bytes that are
 /// hidden, durable bytes that are missing, and a manifest that cannot be read; if `only` has a log,
 /// nothing of others. Then the logs in question are read to the ends of their files.
-pub(crate) fn with_ends<E: Write>(
+pub(crate) fn with_ends<'a, E: Write>(
     rt: &HostRuntime,
     form: Form,
-    path: &str,
+    path: &'a str,
     disk: DirDisk,
     ends: Ends,
     only: Option<u32>,
     errors: &mut E,
-) -> Ended {
+) -> Ended<'a> {
     let alloc = rt.alloc();
     let mut disk = disk;
     let looked = match ends {
@@ -160,7 +185,8 @@ pub(crate) fn with_ends<E: Write>(
         Err(fault) => {
             tell_unread_manifest(alloc, form, &fault, errors);
             return Ended {
-                disk: LimitedDisk::new(disk, BTreeMap::new(alloc)),
+                disk: DurableDisk::new(rt, path, disk, BTreeMap::new(alloc), only.is_some()),
+                lacks: Vec::new(alloc),
                 is_doubted: true,
             };
         }
@@ -168,7 +194,8 @@ pub(crate) fn with_ends<E: Write>(
     look.tell(alloc, form, errors);
     Ended {
         is_doubted: !look.lacks.is_empty(),
-        disk: LimitedDisk::new(disk, look.limits),
+        lacks: look.lacks,
+        disk: DurableDisk::new(rt, path, disk, look.limits, only.is_some()),
     }
 }
 

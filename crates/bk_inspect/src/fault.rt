@@ -5,6 +5,7 @@ ghost use Rattle.bk_inspect.specs.Maps.{told_of};
 ghost use Rattle.bk_inspect.specs.declared.fault.DirFault.TheVariants as faults;
 
 use crate::Form;
+use crate::direct::PADDING;
 use crate::form::{write_object, write_row};
 use bk_disk::{DiskFault, FaultWatch, FileFault};
 use bk_head::HeadFault;
@@ -22,6 +23,12 @@ pub(crate) enum BytesFault {
     Head(HeadFault),
     /// The length field at this position, as a signed number, is below 16.
     BadLength { at: u64, length: i32 },
+    /// The log ends at `at`, before the position of the ledgers map that its header names.
+    CutShort { at: u64, map: u64 },
+    /// Its ledgers map is not that of its entries.
+    MapDiffers,
+    /// It was written by BookKeeper's direct writer, and cannot be read from this position on.
+    Direct { at: u64 },
 }
 
 /// Why a command ends early.
@@ -83,6 +90,10 @@ impl From<DiskFault> for DirFault {
 impl From<ScanFault> for DirFault {
     fn from(fault: ScanFault) -> DirFault {
         match fault {
+            ScanFault::BadLength {
+                at,
+                length: PADDING,
+            } => DirFault::Log(BytesFault::Direct { at }),
             ScanFault::BadLength { at, length } => {
                 DirFault::Log(BytesFault::BadLength { at, length })
             }
@@ -120,6 +131,12 @@ impl Display for BytesFault {
             BytesFault::Head(HeadFault::CountDiffers(found)) => write!(f, "count differs {found}"),
             BytesFault::Head(HeadFault::Memory) => write!(f, "memory"),
             BytesFault::BadLength { at, length } => write!(f, "bad length {at} {length}"),
+            BytesFault::CutShort { at, map } => {
+                let missing = map.saturating_sub(*at);
+                write!(f, "cut short at {at} map {map} missing {missing}")
+            }
+            BytesFault::MapDiffers => write!(f, "map differs"),
+            BytesFault::Direct { at } => write!(f, "written by the direct writer {at}"),
         }
     }
 }
@@ -157,6 +174,12 @@ pub(crate) struct FaultMembers {
     /// The number of ledgers in the map.
     #[serde(skip_serializing_if = "Option::is_none")]
     found: Option<u64>,
+    /// The position of the map that the header names.
+    #[serde(skip_serializing_if = "Option::is_none")]
+    map: Option<u64>,
+    /// How many bytes are missing before it.
+    #[serde(skip_serializing_if = "Option::is_none")]
+    missing: Option<u64>,
 }
 
 impl FaultMembers {
@@ -168,6 +191,8 @@ impl FaultMembers {
         version: None,
         ledger: None,
         found: None,
+        map: None,
+        missing: None,
     };
 
     /// Returns the members of a fault without numbers.
@@ -219,6 +244,13 @@ impl BytesFault {
                 length: Some(length),
                 ..FaultMembers::at("bad length", at)
             },
+            BytesFault::CutShort { at, map } => FaultMembers {
+                map: Some(map),
+                missing: Some(map.saturating_sub(at)),
+                ..FaultMembers::at("cut short", at)
+            },
+            BytesFault::MapDiffers => FaultMembers::named("map differs"),
+            BytesFault::Direct { at } => FaultMembers::at("written by the direct writer", at),
         }
     }
 }

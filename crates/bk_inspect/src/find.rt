@@ -6,15 +6,14 @@ ghost use Rattle.bk_inspect.specs.Reading.{OnlyReads};
 use crate::data::{data_text, show_data};
 use crate::fault::tell_damage;
 use crate::form::{write_object, write_row};
-use crate::header::HEADER;
 use crate::turns::Turns;
-use crate::walk::{Judged, judged_view};
+use crate::walk::{Judged, TakesEntries, judged_view, take_in_view};
 use crate::{DirFault, Form};
 use bk_disk::{LogDisk, LogView};
-use bk_log::{Found, Scanner};
+use bk_log::Found;
 use bk_record::Key;
 use serde::Serialize;
-use std::alloc::Global;
+use std::alloc::{AllocError, Global};
 use std::fmt;
 use std::fmt::{Display, Formatter};
 use std::io::Write;
@@ -88,9 +87,9 @@ fn search_log<D: LogDisk, E: Write>(
     ensures status { IfOk result (λ search. search.status ≤ 1) }
     ensures reads { OnlyReads (D.honest disk.old) (D.files disk.old) (D.honest disk.new) (D.files disk.new) }
 {
-    let Judged { view, status } = judged_view(alloc, disk, log, form, errors)?;
-    let mut found = None;
-    let status = match last_in(alloc, &view, key, &mut found) {
+    let Judged { view, head, status } = judged_view(alloc, disk, log, form, errors)?;
+    let mut last = LastOf { key, found: None };
+    let status = match take_in_view(alloc, log, &view, head, &mut last) {
         Ok(()) => status,
         Err(DirFault::Log(fault)) => {
             tell_damage(alloc, form, log, fault, errors);
@@ -100,7 +99,7 @@ fn search_log<D: LogDisk, E: Write>(
     };
     Ok(Search {
         view,
-        found,
+        found: last.found,
         status,
     })
 }
@@ -116,21 +115,20 @@ fn later<V: LogView>(
     }
 }
 
-/// Finds the last entry of a key in a log, up to a bad length, which is then the fault.
-fn last_in<V: LogView>(
-    alloc: Global,
-    view: &V,
+/// Takes in entries and keeps the last one of a key.
+#[derive(Drop)]
+struct LastOf {
     key: Key,
-    last: &mut Option<Found>,
-) -> Result<(), DirFault> {
-    let end = view.end().max(HEADER);
-    let mut scanner = Scanner::new(view, alloc, HEADER, end);
-    while let Some(found) = scanner.next()? {
-        if found.key == key {
-            *last = Some(found);
+    found: Option<Found>,
+}
+
+impl TakesEntries for LastOf {
+    fn take_in(&mut self, _log: u32, found: Found) -> Result<(), AllocError> {
+        if found.key == self.key {
+            self.found = Some(found);
         }
+        Ok(())
     }
-    Ok(())
 }
 
 /// The row of a key that no log has.

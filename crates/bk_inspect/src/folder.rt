@@ -5,7 +5,9 @@
 
 ghost use Rattle.std.specs.Prelude.{◌≤◌};
 
+use crate::beside::tell_copies;
 use crate::cut_folder::log_path;
+use crate::durable_disk::DurableDisk;
 use crate::ends::{Ended, with_ends};
 use crate::fault::tell_fault;
 use crate::folder_disk::Folder;
@@ -16,7 +18,7 @@ use crate::unsealed::find_watched;
 use crate::visit::{TakesLogs, visit_watched};
 use crate::{DataForm, DirCommand, DirFault, Ends, EntryRange, Form, Hints};
 use bk_disk::{DirDisk, FaultWatch, FolderFault};
-use bk_manifest_disk::LimitedDisk;
+use bk_manifest_disk::Lack;
 use serde::Serialize;
 use std::alloc::{AllocError, Global};
 use std::collections::BTreeMap;
@@ -44,7 +46,8 @@ pub enum FolderCommand<'a> {
 ///
 /// If the command reads all logs, one that cannot be opened, such as a dangling link or a file
 /// without permission, is left out and reported on the error stream, `fault log ID: disk: REASON`;
-/// the status is then 1. A directory without logs is reported on the error stream; the status stays.
+/// the status is then 1. So is a directory without logs; one that has a manifest is noted, and the
+/// status stays.
 /// A directory that cannot be opened is `fault disk`. A failed call of the system that ends the
 /// command is `fault disk: FILE: OPERATION: REASON`.
 pub fn run_folder<W: Write, E: Write>(
@@ -58,7 +61,7 @@ pub fn run_folder<W: Write, E: Write>(
 {
     match DirDisk::open(rt, path) {
         Ok(disk) => {
-            let disk = LimitedDisk::new(disk, BTreeMap::new(rt.alloc()));
+            let disk = DurableDisk::new(rt, path, disk, BTreeMap::new(rt.alloc()), true);
             let hints = Hints::Ignored;
             run_on(rt, Form::Text, path, disk, hints, command, writer, errors)
         }
@@ -78,7 +81,8 @@ pub fn run_folder<W: Write, E: Write>(
 /// the error stream, and the log is read; the status stays. Other commands use no hint.
 ///
 /// The logs end as asked. Bytes that are hidden are noted on the error stream, and so are durable
-/// bytes that are missing; these make the status of a check 1.
+/// bytes that are missing; these make the status of a check 1. A check also notes the copies that
+/// repairs and compactions left.
 pub fn run_folder_as<W: Write, E: Write>(
     rt: &HostRuntime,
     form: Form,
@@ -94,8 +98,15 @@ pub fn run_folder_as<W: Write, E: Write>(
     match open_listed(rt, path, command) {
         Ok(disk) => {
             let only = log_of(command);
-            let Ended { disk, is_doubted } = with_ends(rt, form, path, disk, ends, only, errors);
+            let Ended {
+                disk,
+                is_doubted,
+                ..
+            } = with_ends(rt, form, path, disk, ends, only, errors);
             let status = run_on(rt, form, path, disk, hints, command, writer, errors);
+            if is_check(command) {
+                tell_copies(rt, form, path, errors);
+            }
             if is_doubted && is_check(command) {
                 1
             } else {
@@ -143,7 +154,10 @@ fn is_check(command: &FolderCommand<'_>) -> bool {
     matches!(
         command,
         FolderCommand::Dir(
-            DirCommand::Check | DirCommand::CheckDigests(_) | DirCommand::CheckLong(_)
+            DirCommand::Check
+                | DirCommand::CheckQuick
+                | DirCommand::CheckDigests(_)
+                | DirCommand::CheckLong(_)
         )
     )
 }
@@ -177,7 +191,7 @@ fn run_on<W: Write, E: Write>(
     rt: &HostRuntime,
     form: Form,
     path: &str,
-    disk: LimitedDisk<DirDisk>,
+    disk: DurableDisk<'_>,
     hints: Hints,
     command: &FolderCommand<'_>,
     writer: &mut W,
@@ -191,8 +205,9 @@ fn run_on<W: Write, E: Write>(
 }
 
 /// Takes in the logs of the directory at a path, as `visit_disk` those of a disk, then those that
-/// cannot be opened, which are reported too; the status is then 1. The logs end as asked, with the
-/// notes of `run_folder_as`. Returns `None` also if the directory cannot be opened or listed.
+/// cannot be opened, which are reported too, then that durable bytes are missing, or that there is no
+/// log; the status is then 1. The logs end as asked, with the notes of `run_folder_as`. Returns `None`
+/// also if the directory cannot be opened or listed.
 pub fn visit_folder<T: TakesLogs, E: Write>(
     rt: &HostRuntime,
     form: Form,
@@ -203,7 +218,11 @@ pub fn visit_folder<T: TakesLogs, E: Write>(
 ) -> Option<u8> {
     let disk = open_or_tell(rt, form, path, errors)?;
     let watch = watch_of(rt.alloc(), &disk);
-    let Ended { disk, .. } = with_ends(rt, form, path, disk, ends, None, errors);
+    let Ended {
+        disk,
+        lacks,
+        is_doubted,
+    } = with_ends(rt, form, path, disk, ends, None, errors);
     let mut folder = Folder::new(rt, path, disk);
     let status = visit_watched(
         rt.alloc(),
@@ -214,11 +233,29 @@ pub fn visit_folder<T: TakesLogs, E: Write>(
         errors,
     )?;
     let is_partial = folder.tell(form, errors);
-    if miss_all(taking, folder.unread.as_slice()).is_err() {
+    if miss_all(taking, folder.unread.as_slice()).is_err()
+        || doubt_all(rt.alloc(), taking, &lacks, folder.is_bare()).is_err()
+    {
         tell_fault(rt.alloc(), form, None, DirFault::Memory, errors);
         return None;
     }
-    Some(if is_partial { 1 } else { status })
+    Some(if is_partial || is_doubted { 1 } else { status })
+}
+
+/// Takes in the durable bytes that are missing, and that there is no log.
+fn doubt_all<T: TakesLogs>(
+    alloc: Global,
+    taking: &mut T,
+    lacks: &[Lack],
+    is_bare: bool,
+) -> Result<(), AllocError> {
+    for lack in lacks {
+        taking.doubt(&format!(in alloc; "durable bytes missing: {lack}")?)?;
+    }
+    if is_bare {
+        taking.doubt("no log found")?;
+    }
+    Ok(())
 }
 
 /// Takes in the logs that cannot be opened.

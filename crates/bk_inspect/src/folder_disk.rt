@@ -5,14 +5,15 @@ ghost use Rattle.std.specs.FinMap as map;
 
 use crate::fault::tell_fault;
 use crate::form::{write_object, write_row};
-use crate::survey::{Unread, look_over};
+use crate::survey::{Unread, has_logs, look_over};
 use crate::{DirFault, Form};
 use bk_disk::{DiskFault, LogDisk};
+use bk_manifest_disk::LOGS;
 use serde::Serialize;
 use std::alloc::Global;
-use std::fmt;
 use std::fmt::{Display, Formatter};
 use std::io::Write;
+use std::{fmt, fs};
 
 /// The disk of a directory whose list leaves out the logs that cannot be opened, and remembers
 /// them.
@@ -52,14 +53,54 @@ impl<'a, D: LogDisk> Folder<'a, D> {
             tell_fault(alloc, form, None, DirFault::Unsteady, errors);
         }
         if self.is_empty {
+            let _ = self.tell_empty(form, errors);
+        }
+        !self.unread.is_empty() || !self.is_steady || self.is_bare()
+    }
+
+    /// Returns whether there is neither a log nor a manifest, so that this is no directory of logs.
+    pub(crate) fn is_bare(&self) -> bool {
+        self.is_empty && !has_manifest(&self.rt, self.path)
+    }
+
+    /// Reports that there is no log, and where logs are.
+    fn tell_empty<E: Write>(&self, form: Form, errors: &mut E) -> Result<(), DirFault> {
+        let alloc = self.rt.alloc();
+        if !self.is_bare() {
             let row = EmptyRow {
-                note: "no log found",
+                note: NO_LOG,
                 folder: self.path,
             };
-            let _ = write_row(alloc, form, &row, errors);
+            return write_row(alloc, form, &row, errors);
         }
-        !self.unread.is_empty() || !self.is_steady
+        let path = self.path;
+        let below = format!(in alloc; "{path}/current").map_err(|_| DirFault::Memory)?;
+        let help = match has_logs(&self.rt, alloc, &below) {
+            true => Some(format!(in alloc; "{below} has logs").map_err(|_| DirFault::Memory)?),
+            false => None,
+        };
+        let row = BareRow {
+            fault: NO_LOG,
+            folder: path,
+            help,
+        };
+        write_row(alloc, form, &row, errors)
     }
+}
+
+/// The manifests that a directory of logs may have.
+const MANIFESTS: [&str; 2] = [LOGS, "ledgers.manifest"];
+
+/// Returns whether the directory at a path has a manifest of logs or of ledgers.
+fn has_manifest(rt: &HostRuntime, path: &str) -> bool {
+    for name in MANIFESTS {
+        if let Ok(file) = format!(in rt.alloc(); "{path}/{name}")
+            && fs::symlink_metadata(rt, file.as_str()).is_ok()
+        {
+            return true;
+        }
+    }
+    false
 }
 
 /// The object of a log that cannot be opened.
@@ -92,7 +133,10 @@ fn tell_unread<E: Write>(
     Ok(())
 }
 
-/// The row of a directory without logs.
+/// What is said of a directory without logs.
+const NO_LOG: &str = "no log found";
+
+/// The row of a directory of logs that has none.
 #[derive(Clone, Copy, Serialize)]
 struct EmptyRow<'a> {
     note: &'static str,
@@ -106,6 +150,29 @@ impl Display for EmptyRow<'_> {
             "{} in {}: a log is a file named by its id in hexadecimal, such as 1f.log",
             self.note, self.folder
         )
+    }
+}
+
+/// The row of a directory that is none of logs.
+#[derive(Drop, Serialize)]
+struct BareRow<'a> {
+    fault: &'static str,
+    folder: &'a str,
+    #[serde(skip_serializing_if = "Option::is_none")]
+    help: Option<String>,
+}
+
+impl Display for BareRow<'_> {
+    fn fmt<W: fmt::Write>(&self, f: &mut Formatter<W>) -> fmt::Result {
+        write!(
+            f,
+            "fault {} in {}: a log is a file named by its id in hexadecimal, such as 1f.log",
+            self.fault, self.folder
+        )?;
+        match &self.help {
+            Some(help) => write!(f, "\nhelp: {help}"),
+            None => Ok(()),
+        }
     }
 }
 

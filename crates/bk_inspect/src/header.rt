@@ -1,10 +1,10 @@
 //! The header of a log, read from a disk.
 
-ghost use Rattle.std.specs.Prelude.{IsTrue, IfOk, IfSome, IsErrOf, IsNone, OnOk, Some};
+ghost use Rattle.std.specs.Prelude.{◌≡◌, ◌<◌, pos, IsTrue, IfOk, IfSome, IsErrOf, IsNone, MatchOption, OnOk, Some};
 ghost use Rattle.std.specs.FinMap as map;
 ghost use Rattle.std.specs.Io.KnownBytes.{Appends};
 ghost use Rattle.bk_inspect.specs.Forms.{followed};
-ghost use Rattle.bk_inspect.specs.Heads.{IsHeadOf, StartsWith};
+ghost use Rattle.bk_inspect.specs.Heads.{IsHeadOf, NamesPast, StartsWith};
 ghost use Rattle.bk_inspect.specs.Reading.{OfFile, OnlyReads};
 ghost use Rattle.bk_inspect.specs.Shown.{HeadText, Prints, WritesText};
 ghost use Rattle.bk_inspect.specs.Texts.{header_text, line};
@@ -85,6 +85,21 @@ fn head_in(bytes: &[u8]) -> Option<Head>
         Ok(header) => Some(Head::Whole(header)),
         Err(fault) => Some(Head::Bad(fault)),
     }
+}
+
+/// Returns the position of the map that a header names, if a log of `end` bytes ends before it.
+pub(crate) fn map_past(end: u64, header: &Header) -> Option<u64>
+    ensures { MatchOption result (¬ (NamesPast end header.now))
+        (λ map. (header.now.map_offset ≡ pos map) × (end < map)) }
+{
+    if header.map_offset < 0 {
+        return None;
+    }
+    let map = header.map_offset as u64;
+    if map <= end {
+        return None;
+    }
+    Some(map)
 }
 
 /// Writes a log's header: `version V map OFFSET count COUNT`, or `short` if the log has none.

@@ -11,6 +11,10 @@ const CUT_TORN: &str =
 const MOVE_AWAY: &str =
     "if './bookie scan' shows no entry in the log, a crash may have left it so, and its file can be moved away";
 
+/// The way on after a log of the direct writer.
+const DIRECT: &str =
+    "this program does not read all entries of such a log: leave it to the bookie that wrote it";
+
 /// The way on if a file is longer than a log.
 const TOO_LONG: &str =
     "a log has at most 4294967295 bytes: move the file away, or put the log back from a copy";
@@ -24,9 +28,14 @@ const SEALED: &str =
 pub(crate) fn help_of(refusal: Refusal) -> Option<&'static str> {
     match refusal {
         Refusal::Torn { .. } | Refusal::Bytes(BytesFault::BadLength { .. }) => Some(CUT_TORN),
+        Refusal::Bytes(BytesFault::Direct { .. }) => Some(DIRECT),
         Refusal::Bytes(BytesFault::Head(_)) => Some(MOVE_AWAY),
         Refusal::TooLong(_) => Some(TOO_LONG),
         Refusal::Sealed => Some(SEALED),
-        Refusal::NoLog | Refusal::Short | Refusal::Old | Refusal::NoRoom => None,
+        Refusal::Bytes(BytesFault::CutShort { .. } | BytesFault::MapDiffers)
+        | Refusal::NoLog
+        | Refusal::Short
+        | Refusal::Old
+        | Refusal::NoRoom => None,
     }
 }

@@ -1,7 +1,10 @@
 //! The ledgers map of a log: the one in the log, and the one of its entries.
 
-ghost use Rattle.std.specs.Prelude.{IsTrue, OnOk, Some, flat_map};
+ghost use Rattle.std.specs.Prelude.{ℕ, List, ◌++◌, IsTrue, OnOk, Some, flat_map};
 ghost use Rattle.std.specs.Io.KnownBytes.{Appends};
+ghost use Rattle.bk_record.specs.Files.{placed};
+ghost use Rattle.bk_record.specs.Location.{Place};
+ghost use Rattle.bk_record.specs.Scan.{entries_of};
 ghost use Rattle.bk_inspect.specs.Forms.{followed};
 ghost use Rattle.bk_inspect.specs.Maps.{ledger_line, ledger_text};
 ghost use Rattle.bk_inspect.specs.Reading.{OnlyReads};
@@ -10,10 +13,11 @@ ghost use Rattle.bk_inspect.specs.declared.command.DirCommand.TheVariants as com
 ghost use Rattle.bk_inspect.specs.declared.header.Head.TheVariants as heads;
 
 use crate::calls::view_of;
+use crate::direct::scan_fault;
 use crate::form::write_row;
 use crate::header::{HEADER, Head, read_head, write_word};
 use crate::walk::TakesEntries;
-use crate::written::written_ledgers;
+use crate::written::named_ledgers;
 use crate::{BytesFault, DirFault, Form};
 use bk_disk::{LogDisk, LogView};
 use bk_head::Header;
@@ -40,7 +44,26 @@ pub(crate) fn counted_ledgers<V: LogView, T: TakesEntries>(
     log: u32,
     view: &V,
     taking: &mut T,
-) -> Result<Counted, DirFault> {
+) -> Result<Counted, DirFault>
+    ensures { IsTrue (V.honest view.now) → OnOk result ((first : T) (taken : List (Place × List ℕ))
+        → T.has first taking.old taken → T.has first taking.new (taken ++ placed log (entries_of (V.bytes view.now)))) }
+{
+    match count_entries(alloc, log, view, taking) {
+        Ok(counted) => Ok(counted),
+        Err(fault) => Err(scan_fault(alloc, view, fault)),
+    }
+}
+
+/// The same, without a fault of its own of the direct writer's logs.
+fn count_entries<V: LogView, T: TakesEntries>(
+    alloc: Global,
+    log: u32,
+    view: &V,
+    taking: &mut T,
+) -> Result<Counted, DirFault>
+    ensures { IsTrue (V.honest view.now) → OnOk result ((first : T) (taken : List (Place × List ℕ))
+        → T.has first taking.old taken → T.has first taking.new (taken ++ placed log (entries_of (V.bytes view.now)))) }
+{
     let end = view.end().max(HEADER);
     let mut scanner = Scanner::new(view, alloc, HEADER, end);
     let mut sizes = LedgerSizes::new(alloc);
@@ -50,8 +73,9 @@ pub(crate) fn counted_ledgers<V: LogView, T: TakesEntries>(
             Ok(()) => {}
             Err(_) => return Err(DirFault::Memory),
         }
-        if taking.take_in(log, entry).is_err() {
-            return Err(DirFault::Memory);
+        match taking.take_in(log, entry) {
+            Ok(()) => {}
+            Err(_) => return Err(DirFault::Memory),
         }
     }
     let torn = scanner.torn();
@@ -97,7 +121,7 @@ fn show_view<V: LogView, W: Write>(
     ensures { IsTrue (V.honest view.now) → OnOk result (WritesText (MapText (V.bytes view.now) (heads.Whole header.now))
         (followed form (W.contents writer.old)) (followed form (W.contents writer.new))) }
 {
-    match written_ledgers(alloc, view, header)? {
+    match named_ledgers(alloc, view, header)? {
         Some(map) => show_ledgers(alloc, &map, form, writer)?,
         None => write_word(alloc, log, "no map", form, writer)?,
     }

@@ -4,6 +4,7 @@
 
 mod aside;
 mod aside_folder;
+mod beside;
 mod calls;
 mod check;
 mod command;
@@ -16,6 +17,8 @@ mod cutting;
 mod data;
 mod digest;
 mod digests;
+mod direct;
+mod durable_disk;
 mod ends;
 mod entries;
 mod export;

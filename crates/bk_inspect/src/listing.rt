@@ -12,7 +12,7 @@ ghost use Rattle.bk_inspect.specs.declared.command.DirCommand.TheVariants as com
 
 use crate::calls::list_logs;
 use crate::form::write_row;
-use crate::header::{Head, read_head};
+use crate::header::{Head, LogHead, map_past, read_head};
 use crate::{DirFault, Form};
 use bk_disk::LogDisk;
 use serde::Serialize;
@@ -31,6 +31,8 @@ pub(crate) enum LogStanding {
     Bad,
     /// Its header names no ledgers map.
     Open,
+    /// Its header names a ledgers map, and the log ends before it.
+    Cut,
     /// Its header names a ledgers map.
     Sealed,
 }
@@ -43,6 +45,7 @@ impl Display for LogStanding {
             LogStanding::Short => write!(f, "short"),
             LogStanding::Bad => write!(f, "bad"),
             LogStanding::Open => write!(f, "open"),
+            LogStanding::Cut => write!(f, "cut"),
             LogStanding::Sealed => write!(f, "sealed"),
         }
     }
@@ -64,14 +67,15 @@ impl Display for LogRow {
     }
 }
 
-/// Returns the state that a header says.
-pub(crate) fn state_of(head: Head) -> LogStanding
-    ensures { HeadState head result }
+/// Returns the state that the header of a log says.
+pub(crate) fn state_of(found: LogHead) -> LogStanding
+    ensures { HeadState found.length found.head result }
 {
-    match head {
+    match found.head {
         Head::Short => LogStanding::Short,
         Head::Bad(_) => LogStanding::Bad,
         Head::Whole(header) if header.map_offset == 0 && header.count == 0 => LogStanding::Open,
+        Head::Whole(header) if map_past(found.length, &header).is_some() => LogStanding::Cut,
         Head::Whole(_) => LogStanding::Sealed,
     }
 }
@@ -113,7 +117,7 @@ fn show_log<D: LogDisk, W: Write>(
             let row = LogRow {
                 log,
                 length: found.length,
-                state: state_of(found.head),
+                state: state_of(found),
             };
             write_log(alloc, form, &row, writer)
         }

@@ -15,7 +15,7 @@ use crate::fault::FaultMembers;
 use crate::form::write_row;
 use crate::header::{Head, read_head};
 use crate::turns::Turns;
-use crate::written::written_ledgers;
+use crate::written::named_ledgers;
 use crate::{BytesFault, DirFault, Form};
 use bk_disk::{LogDisk, LogView};
 use bk_head::Header;
@@ -129,7 +129,7 @@ fn outline_of<D: LogDisk>(alloc: Global, disk: &mut D, log: u32) -> Result<Outli
 fn outline_in<V: LogView>(alloc: Global, view: &V, header: &Header) -> Result<Outline, DirFault>
     ensures { IsTrue (V.honest view.now) → IfOk result (MapOutline (V.bytes view.now) header.now) }
 {
-    match written_ledgers(alloc, view, header) {
+    match named_ledgers(alloc, view, header) {
         Ok(Some(_)) => Ok(Outline::Sealed),
         Ok(None) => Ok(Outline::Unsealed),
         Err(DirFault::Log(fault)) => Ok(Outline::Faulty(fault)),

@@ -12,6 +12,7 @@ ghost use Rattle.bk_inspect.specs.Reading.{OnlyReads};
 ghost use Rattle.bk_inspect.specs.Sealing.{AppendsMap, AreSizesOf, IsOpenHead, IsPlan, PatchesHeader, SealCommandTransition, WritesPlan};
 
 use crate::calls::view_of;
+use crate::direct::is_direct;
 use crate::header::{HEADER, Head, read_head};
 use crate::{BytesFault, DirFault};
 use bk_disk::{LogDisk, LogView};
@@ -106,6 +107,7 @@ pub(crate) fn seal_log<D: LogDisk>(
     let found = read_head(alloc, disk, log)?;
     refuse_head(found.head)?;
     let view = view_of(alloc, disk, log)?;
+    refuse_direct(alloc, &view)?;
     let plan = plan_of(alloc, &view)?;
     match write_plan(alloc, disk, log, &plan) {
         Ok(()) => Ok(SealedLog {
@@ -127,6 +129,15 @@ fn refuse_head(head: Head) -> Result<(), SealFault>
         Head::Whole(header) if header.map_offset == 0 && header.count == 0 => Ok(()),
         Head::Whole(_) => Err(SealFault::Refused(Refusal::Sealed)),
     }
+}
+
+/// Refuses a log that BookKeeper's direct writer wrote: not all of its records are seen.
+pub(crate) fn refuse_direct<V: LogView>(alloc: Global, view: &V) -> Result<(), SealFault> {
+    if is_direct(alloc, view)? {
+        let fault = BytesFault::Direct { at: HEADER };
+        return Err(SealFault::Refused(Refusal::Bytes(fault)));
+    }
+    Ok(())
 }
 
 /// Returns what is to be written to the log of a view. Refuses a log that is too long, or has a torn

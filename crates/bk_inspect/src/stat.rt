@@ -26,9 +26,10 @@ use std::io::Write;
 ///
 /// ENTRIES is the number of entries, BYTES the size of their records, LIVE that of ledgers not in
 /// `dead`, SHARE the thousandths of BYTES that are live, rounded down, or `-` if there are no
-/// bytes. STATE is that of `logs`. A log that cannot be read to its end is reported on the error
-/// stream, `fault log ID: TEXT`, and counted up to there; the status is then 1. A log that is
-/// removed meanwhile is left out; then the logs that are new since follow, each once. The sums are
+/// bytes. STATE is that of `logs`. A log that cannot be read to its end, or whose ledgers map is not
+/// that of its entries, is reported on the error stream, `fault log ID: TEXT`, and counted up to
+/// there; the status is then 1. A log that is removed meanwhile is left out; then the logs that are
+/// new since follow, each once. The sums are
 /// those of the rows, so entries that were moved meanwhile may be counted in both logs.
 pub fn run_stat<D: LogDisk, W: Write, E: Write>(
     alloc: Global,
@@ -174,7 +175,7 @@ struct LogStat<'a> {
     length: u64,
     standing: LogStanding,
     amount: Amount<'a>,
-    /// Whether it was read to its end.
+    /// Whether it was read to its end, and its map is that of its entries.
     is_whole: bool,
 }
 
@@ -206,7 +207,7 @@ impl<'a> Sums<'a> {
     }
 }
 
-/// Returns the amounts of a log that was listed; `None` if it is removed meanwhile. A bad length is
+/// Returns the amounts of a log that was listed; `None` if it is removed meanwhile. A fault is
 /// reported at once.
 fn stat_of<'a, D: LogDisk, E: Write>(
     alloc: Global,
@@ -229,7 +230,7 @@ fn stat_of<'a, D: LogDisk, E: Write>(
         Err(fault) => return Err(fault),
     };
     let mut amount = Amount::new(dead);
-    let is_whole = match take_in_view(alloc, log, &view, &mut amount) {
+    let is_whole = match take_in_view(alloc, log, &view, head.head, &mut amount) {
         Ok(()) => true,
         Err(DirFault::Log(fault)) => {
             tell_damage(alloc, form, log, fault, errors);
@@ -239,7 +240,7 @@ fn stat_of<'a, D: LogDisk, E: Write>(
     };
     Ok(Some(LogStat {
         length: head.length,
-        standing: state_of(head.head),
+        standing: state_of(head),
         amount,
         is_whole,
     }))

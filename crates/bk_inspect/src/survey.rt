@@ -66,6 +66,14 @@ pub(crate) fn look_over(
     Ok(Some(found))
 }
 
+/// Returns whether the directory at a path has a log.
+pub(crate) fn has_logs(rt: &HostRuntime, alloc: Global, path: &str) -> bool {
+    match look_once(rt, alloc, path) {
+        Ok(Some(found)) => !found.ids.is_empty() || !found.unread.is_empty(),
+        _ => false,
+    }
+}
+
 /// Reads a directory once.
 fn look_once(rt: &HostRuntime, alloc: Global, path: &str) -> Result<Option<Survey>, AllocError> {
     let mut found = Survey {

@@ -26,7 +26,7 @@ use std::{fmt, io};
 pub enum LogEnd {
     /// All whole records were read. After the last are `torn` bytes.
     Read { torn: u64 },
-    /// The length field at this position is below 16.
+    /// The length field at this position is below 16, or the direct writer wrote the log.
     BadLength { at: u64 },
 }
 
@@ -40,12 +40,19 @@ impl LogFault {
     /// Returns whether a store opens on the log all the same: the map alone is wrong.
     pub fn is_of_map(&self) -> bool {
         match self.health {
-            Health::Faulty(BytesFault::BadLength { .. })
-            | Health::Faulty(BytesFault::Head(HeadFault::BadMagic | HeadFault::Version(_))) => {
-                false
-            }
+            Health::Faulty(
+                BytesFault::BadLength { .. }
+                | BytesFault::Direct { .. }
+                | BytesFault::Head(HeadFault::BadMagic | HeadFault::Version(_)),
+            ) => false,
             _ => true,
         }
+    }
+
+    /// Returns whether a compaction passes over the log: no store opens on it, or its map has other
+    /// entries.
+    pub fn is_passed_over(&self) -> bool {
+        !self.is_of_map() || self.health == Health::MapDiffers
     }
 }
 
@@ -68,6 +75,11 @@ pub trait TakesLogs: TakesEntries {
 
     /// Takes in that a log cannot be opened, for this reason.
     fn miss(&mut self, log: u32, reason: &io::Error) -> Result<(), AllocError>;
+
+    /// Takes in what is wrong with a directory, as a line.
+    fn doubt(&mut self, _line: &str) -> Result<(), AllocError> {
+        Ok(())
+    }
 }
 
 /// Takes in the logs of a disk, by rising id, each with its entries in file order. Nothing is written
@@ -148,7 +160,7 @@ fn visit_log<D: LogDisk, T: TakesLogs>(
 {
     let found = read_head(alloc, disk, log)?;
     let view = view_of(alloc, disk, log)?;
-    let is_sealed = state_of(found.head) == LogStanding::Sealed;
+    let is_sealed = matches!(state_of(found), LogStanding::Sealed | LogStanding::Cut);
     taking.begin(log, found.length, is_sealed);
     let (end, health) = visit_view(alloc, log, &view, found.head, taking)?;
     let fault = if health.is_bad() {
@@ -172,10 +184,9 @@ fn visit_view<V: LogView, T: TakesLogs>(
 ) -> Result<(LogEnd, Health), DirFault> {
     let counted = match counted_ledgers(alloc, log, view, taking) {
         Ok(counted) => counted,
-        Err(DirFault::Log(BytesFault::BadLength { at, length })) => {
-            let fault = BytesFault::BadLength { at, length };
-            return Ok((LogEnd::BadLength { at }, worst(head, fault)));
-        }
+        Err(
+            DirFault::Log(fault @ (BytesFault::BadLength { at, .. } | BytesFault::Direct { at })),
+        ) => return Ok((LogEnd::BadLength { at }, worst(head, fault))),
         Err(fault) => return Err(fault),
     };
     let end = LogEnd::Read { torn: counted.torn };

@@ -7,17 +7,21 @@ ghost use Rattle.bk_record.specs.Location.{Place};
 ghost use Rattle.bk_record.specs.Record.{key_of};
 ghost use Rattle.bk_record.specs.Scan.{entries_of};
 ghost use Rattle.bk_inspect.specs.Heads.{JudgesHead};
+ghost use Rattle.bk_head.specs.Ledgers.{map_of};
+ghost use Rattle.bk_inspect.specs.Maps.{HasMapOf};
 ghost use Rattle.bk_inspect.specs.Reading.{OfFile, OnlyReads};
 ghost use Rattle.bk_inspect.specs.Walking.{entries_in_logs};
 ghost use Rattle.bk_inspect.specs.declared.fault.DirFault.TheVariants as faults;
 
 use crate::calls::view_of;
+use crate::check::{Health, compare_map};
 use crate::fault::tell_damage;
-use crate::header::{HEADER, Head, read_head};
+use crate::header::{Head, read_head};
+use crate::ledgers::{Counted, counted_ledgers};
 use crate::turns::Turns;
 use crate::{BytesFault, DirFault, Form};
 use bk_disk::{LogDisk, LogView};
-use bk_log::{Found, Scanner};
+use bk_log::Found;
 use std::alloc::{AllocError, Global};
 use std::io::Write;
 
@@ -64,7 +68,7 @@ pub(crate) fn take_in_logs<D: LogDisk, T: TakesEntries, E: Write>(
             Err(fault) => return Err(fault),
         };
         status = judged.status.max(status);
-        match take_in_view(alloc, log, &judged.view, taking) {
+        match take_in_view(alloc, log, &judged.view, judged.head, taking) {
             Ok(()) => {}
             Err(DirFault::Log(fault)) => {
                 tell_damage(alloc, form, log, fault, errors);
@@ -80,6 +84,7 @@ pub(crate) fn take_in_logs<D: LogDisk, T: TakesEntries, E: Write>(
 #[derive(Drop)]
 pub(crate) struct Judged<V: LogView> {
     pub(crate) view: V,
+    pub(crate) head: Head,
     /// 1 if the header is invalid, else 0.
     pub(crate) status: u8,
 }
@@ -101,7 +106,8 @@ pub(crate) fn judged_view<D: LogDisk, E: Write>(
     ensures gone { IsTrue (D.honest disk.old)
         → IsErrOf result faults.NoLog → IsNone (map.get (D.files disk.old) log) }
 {
-    let status = match read_head(alloc, disk, log)?.head {
+    let head = read_head(alloc, disk, log)?.head;
+    let status = match head {
         Head::Bad(fault) => {
             tell_damage(alloc, form, log, BytesFault::Head(fault), errors);
             1
@@ -109,26 +115,41 @@ pub(crate) fn judged_view<D: LogDisk, E: Write>(
         Head::Short | Head::Whole(_) => 0,
     };
     let view = view_of(alloc, disk, log)?;
-    Ok(Judged { view, status })
+    Ok(Judged { view, head, status })
 }
 
-/// Takes in the entries of a view of a log, up to a bad length, which is then the fault.
+/// Takes in the entries of a view of a log with this header, up to a bad length, which is then the
+/// fault; so is a ledgers map that cannot be read, or is not that of the entries.
 pub(crate) fn take_in_view<V: LogView, T: TakesEntries>(
     alloc: Global,
     log: u32,
     view: &V,
+    head: Head,
     taking: &mut T,
 ) -> Result<(), DirFault>
     ensures { IsTrue (V.honest view.now) → OnOk result ((first : T) (taken : List (Place × List ℕ))
         → T.has first taking.old taken → T.has first taking.new (taken ++ placed log (entries_of (V.bytes view.now)))) }
 {
-    let end = view.end().max(HEADER);
-    let mut scanner = Scanner::new(view, alloc, HEADER, end);
-    while let Some(found) = scanner.next()? {
-        match taking.take_in(log, found) {
-            Ok(()) => {}
-            Err(_) => return Err(DirFault::Memory),
-        }
+    let counted = counted_ledgers(alloc, log, view, taking)?;
+    refuse_map(alloc, view, head, &counted)
+}
+
+/// Refuses a log whose header names a ledgers map that cannot be read, or is not that of the entries.
+fn refuse_map<V: LogView>(
+    alloc: Global,
+    view: &V,
+    head: Head,
+    counted: &Counted,
+) -> Result<(), DirFault>
+    ensures { IsTrue (V.honest view.now)
+        → OnOk result (HasMapOf (V.bytes view.now) head (map_of counted.now.ledgers)) }
+{
+    let Head::Whole(header) = head else {
+        return Ok(());
+    };
+    match compare_map(alloc, view, &header, counted)? {
+        Health::Unsealed { .. } | Health::Sound => Ok(()),
+        Health::MapDiffers => Err(DirFault::Log(BytesFault::MapDiffers)),
+        Health::Short | Health::Faulty(_) => Err(DirFault::Odd),
     }
-    Ok(())
 }

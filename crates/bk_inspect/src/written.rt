@@ -8,10 +8,10 @@ ghost use Rattle.std.specs.Ordering.{nat_cmp};
 ghost use Rattle.bk_disk.specs.Disk.{view_end};
 ghost use Rattle.bk_head.specs.Ledgers.{SpellsMap, map_of, ledgers_of, AreDistinct};
 ghost use Rattle.bk_head.specs.Parts.{AddsPairs};
-ghost use Rattle.bk_inspect.specs.Maps.{HasNoMapIn, IfBytes, IsMapIn, PairFaultIf, SpellsNoMap};
+ghost use Rattle.bk_inspect.specs.Maps.{HasNoMapIn, IfBytes, IsMapIn, PairFaultIf, PlaceFault, ShortIf, SpellsNoMap};
 
 use crate::calls::read_view;
-use crate::header::HEADER;
+use crate::header::{HEADER, map_past};
 use crate::{BytesFault, DirFault};
 use bk_disk::LogView;
 use bk_head::{BATCH_HEAD, HeadFault, Header, PAIR, add_pairs, pairs_in_batch, place_of_map};
@@ -43,6 +43,41 @@ pub(crate) fn written_ledgers<V: LogView>(
         return Err(DirFault::Log(BytesFault::Head(HeadFault::CountDiffers(found))));
     }
     Ok(Some(map))
+}
+
+/// Returns the ledgers map in a log as `written_ledgers`. A log that ends before the map that its
+/// header names has a fault of its own.
+pub(crate) fn named_ledgers<V: LogView>(
+    alloc: Global,
+    view: &V,
+    header: &Header,
+) -> Result<Option<BTreeMap<u64, u64>>, DirFault>
+    ensures ordered { IfOk result (λ map. IfSome map (IsOrdered nat_cmp)) }
+    ensures ok { IsTrue (V.honest view.now)
+        → IfOk result (λ map. IsMapIn (V.bytes view.now) header.now (option_map map_of map)) }
+    ensures lost { IsTrue (V.honest view.now)
+        → IfErr result (λ fault. IfBytes fault (HasNoMapIn (V.bytes view.now) header.now)) }
+    ensures short { IsTrue (V.honest view.now) → IfErr result (ShortIf (V.bytes view.now) header.now) }
+{
+    match written_ledgers(alloc, view, header) {
+        Ok(map) => Ok(map),
+        Err(DirFault::Log(BytesFault::Head(why))) => {
+            let end = view.end().max(HEADER);
+            Err(DirFault::Log(place_fault(end, header, why)))
+        }
+        Err(DirFault::Log(_)) => Err(DirFault::Odd),
+        Err(fault) => Err(fault),
+    }
+}
+
+/// Returns the fault of the map of a log of `end` bytes.
+fn place_fault(end: u64, header: &Header, why: HeadFault) -> BytesFault
+    ensures { PlaceFault end header.now why result }
+{
+    match map_past(end, header) {
+        Some(map) => BytesFault::CutShort { at: end, map },
+        None => BytesFault::Head(why),
+    }
 }
 
 /// Returns the map that the bytes of a view spell, from a position to the end of the view.

@@ -10,6 +10,7 @@ mod cut_folder;
 mod cut_mem;
 mod detail;
 mod digests;
+mod doubtful;
 mod every_byte;
 mod failing;
 mod flush;

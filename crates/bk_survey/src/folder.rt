@@ -19,7 +19,8 @@ use std::time::{SystemTime, UNIX_EPOCH};
 /// directory is only read. Returns the program's status: 0 or 1.
 ///
 /// A log that cannot be opened or read to its end, or whose map is not that of its entries, is named
-/// on the page and on the error stream, in this form; the status is then 1. Unless the logs end as
+/// on the page and on the error stream, in this form; so are durable bytes that are missing, and a
+/// directory without logs. The status is then 1. Unless the logs end as
 /// their files do, the page shows what the manifests record. One that cannot be read is named in the
 /// same way, with status 1.
 ///

@@ -38,8 +38,8 @@ pub struct Surveyed {
 ///
 /// Entries, bytes and live bytes of a log are those that `stat` of bk_inspect shows, those of a
 /// ledger the ones of `ledgers`. A log is at fault if `check` says so, and then has a line in
-/// `faults`, and one on the error stream in this form; `fault` of its row is set unless its map alone
-/// is wrong.
+/// `faults`, and one on the error stream in this form; `fault` of its row is set if a compaction
+/// passes over the log.
 ///
 /// Returns `None` if the reading ends early, as that of `visit_disk`, or memory is refused, with
 /// `fault TEXT` on the error stream.
@@ -117,8 +117,8 @@ impl Surveyor {
 }
 
 impl Surveyor {
-    /// Notes what is wrong with the log. Returns what its row says of that: nothing if the map alone is
-    /// wrong.
+    /// Notes what is wrong with the log. Returns what its row has of that: nothing if a compaction takes
+    /// the log all the same.
     fn note(&mut self, fault: LogFault) -> Result<Option<String>, AllocError>
         ensures counts { self.new.survey ≡ self.old.survey }
         ensures fault { OnOk result (HasOneMore self.old.faults.items self.new.faults.items) }
@@ -127,7 +127,7 @@ impl Surveyor {
         let file = name_of(self.alloc, log)?;
         let line = format!(in self.alloc; "log {log} ({file}): {fault}")?;
         self.faults.push(line)?;
-        if fault.is_of_map() {
+        if !fault.is_passed_over() {
             return Ok(None);
         }
         Ok(Some(format!(in self.alloc; "{fault}")?))
@@ -168,6 +168,15 @@ impl TakesLogs for Surveyor {
     {
         let file = name_of(self.alloc, log)?;
         let line = format!(in self.alloc; "log {log} ({file}), left out: open: {reason}")?;
+        self.faults.push(line)?;
+        Ok(())
+    }
+
+    fn doubt(&mut self, line: &str) -> Result<(), AllocError>
+        ensures counts { self.new.survey ≡ self.old.survey }
+        ensures fault { OnOk result (HasOneMore self.old.faults.items self.new.faults.items) }
+    {
+        let line = String::from_str(self.alloc, line)?;
         self.faults.push(line)?;
         Ok(())
     }

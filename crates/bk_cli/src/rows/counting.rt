@@ -21,8 +21,8 @@ default.
 Deleted are the ledgers that the directory's manifest records, those that --dead and --dead-file
 name, and with --live-file or --live-none each ledger of DIR that no such file lists.
 
-If a log cannot be read to its end, `fault log ID: TEXT` goes to the error stream, and the log is
-counted up to there.
+If a log cannot be read to its end, or its map is not that of its entries, `fault log ID: TEXT` goes to
+the error stream, and the log is counted as far as it can be read.
 
 A sealed log that has a hint (`bookie hint`) is not read: its hint is. A hint that may not be used is
 noted on the error stream, `note hint not used: log ID: REASON`, and the log is read.
@@ -43,7 +43,8 @@ Example:
         summary: "Write a page on the logs, for a browser",
         help: "\
 Writes one HTML page to the standard output, which loads nothing and runs no script. It shows
-  faults     each log that is at fault by `check`, and each that cannot be opened
+  faults     each log that is at fault by `check`, each that cannot be opened, and each of which durable
+             bytes are missing
   logs       for each log the bytes of live and of dead entries, of foreign records, the torn bytes at
              its end, and the bytes from a bad length on. Dead are the entries of deleted ledgers, by
              the manifest and the options as in `stat`
@@ -59,7 +60,7 @@ records counts twice.
 Each fault also goes to the error stream, `fault log ID: TEXT` or `fault manifest: TEXT`. The page is
 written when all logs are read; a log that cannot be read to its end is counted up to there.
 
-Exit status: 0; 1 if a log is at fault, or on a fault, `fault TEXT` on the error stream; 2 if the command
+Exit status: 0; 1 if a fault is named, or on a fault, `fault TEXT` on the error stream; 2 if the command
 line is wrong.
 
 Example:

@@ -15,10 +15,12 @@ Prints one line per log, by rising id, as soon as the log is read: `ID WORD`. WO
 these that applies:
   short        the file is shorter than a header (1024 bytes)
   fault TEXT   the header is invalid: `bad magic`, `version V`
-  fault TEXT   a record is invalid: `bad length AT N`
+  fault TEXT   a record is invalid: `bad length AT N`; or BookKeeper's direct writer wrote the log, which is
+               not read past AT: `written by the direct writer AT`
   unsealed     the header names no ledgers map
   fault TEXT   the map is invalid: `negative number`, `not a map AT`, `map length AT`,
                `repeated LEDGER`, `count differs FOUND`
+  fault TEXT   the file ends at AT, N bytes before the map: `cut short at AT map OFFSET missing N`
   map differs  the map is not that of the log's entries
   ok           the map is that of the log's entries
 With --long the line of an unsealed log is `ID unsealed torn N`: N bytes at its end are no whole record.
@@ -45,6 +47,11 @@ each entry that does not fit its digest, or has no room for one, is printed befo
 
 Each log is read up to its durable bytes, as `logs.manifest` of DIR records them; what follows them is
 noted on the error stream, `note log LOG: ..`. So are missing ones: `note durable bytes missing: ..`.
+A log that was sealed or removed since is looked at again. The copies that repairs and compactions
+left in DIR are noted too, `note copy FILE: N bytes, NAME is there`: NAME is the file that it is a copy
+of, which may also be gone, `is not there`.
+
+A directory without logs is a fault, `fault no log found in DIR: ..`, unless it has a manifest.
 
 Exit status: 0, or 1 if a line says `fault`, `map differs` or `digest`, if durable bytes are missing or
 `logs.manifest` cannot be read, or on a fault; 2 if the command line is wrong. `unknown` does not change
@@ -74,6 +81,7 @@ Prints one line per log, by rising id: `ID LENGTH STATE`. STATE is
   short   the file is shorter than a header (1024 bytes)
   bad     the header is invalid
   open    the header names no ledgers map: the log is not sealed
+  cut     the header names a ledgers map, and the file ends before it
   sealed  the header names a ledgers map
 
 Exit status: 0, 1 on a fault, 2 if the command line is wrong.
@@ -94,8 +102,8 @@ Prints one line per ledger, rising: `LEDGER RECORDS BYTES FIRST LAST LOGS`. RECO
 its records in all logs, BYTES their size, FIRST and LAST its first and last entry, LOGS the number
 of logs with a record. An entry with two records counts twice.
 
-If a log's header is invalid, or a log cannot be read to its end, `fault log ID: TEXT` goes to the
-error stream, and the log is counted as far as it can be read.
+If a log's header is invalid, a log cannot be read to its end, or its map is not that of its entries,
+`fault log ID: TEXT` goes to the error stream, and the log is counted as far as it can be read.
 
 A sealed log that has a hint (`bookie hint`) is not read: its hint is. A hint that may not be used is
 noted on the error stream, `note hint not used: log ID: REASON`, and the log is read.
@@ -118,8 +126,8 @@ Prints one line per entry of the ledger, rising: `ENTRY LOG AT SIZE`. LOG is the
 record, AT the position of the payload there, SIZE the size of the record. If an entry has several
 records, the last one counts, by log id, then position.
 
-If a log's header is invalid, or a log cannot be read to its end, `fault log ID: TEXT` goes to the
-error stream, and the log is searched as far as it can be read.
+If a log's header is invalid, a log cannot be read to its end, or its map is not that of its entries,
+`fault log ID: TEXT` goes to the error stream, and the log is searched as far as it can be read.
 
 A sealed log that has a hint (`bookie hint`) is not read: its hint is. A hint that may not be used is
 noted on the error stream, `note hint not used: log ID: REASON`, and the log is read.

@@ -19,8 +19,8 @@ an entry is a line, `ENTRY DATA`: its number and its data in hexadecimal, or `-`
 bytes each) and data. All numbers are big-endian. `import` reads that. With --json the members are
 `ledger`, `entry` and `data`.
 
-If a log's header is invalid, or a log cannot be read to its end, `fault log ID: TEXT` goes to the
-error stream, and the log is searched as far as it can be read. What can be read is written. A
+If a log's header is invalid, a log cannot be read to its end, or its map is not that of its entries,
+`fault log ID: TEXT` goes to the error stream, and the log is searched as far as it can be read. What can be read is written. A
 deleted ledger is exported like any other, as long as its records are there.
 
 A sealed log that has a hint (`bookie hint`) is not read: its hint is. A hint that may not be used is
@@ -45,8 +45,8 @@ Prints `LOG AT DATA`, or `not found`. LOG is the log of the entry's last record,
 the payload there, DATA the data in hexadecimal, or `-` if there is none. If an entry has several
 records, the last one counts, by log id, then position. All logs are searched.
 
-If a log's header is invalid, or a log cannot be read to its end, `fault log ID: TEXT` goes to the
-error stream, and the log is searched as far as it can be read.
+If a log's header is invalid, a log cannot be read to its end, or its map is not that of its entries,
+`fault log ID: TEXT` goes to the error stream, and the log is searched as far as it can be read.
 
 A sealed log that has a hint (`bookie hint`) is not read: its hint is. A hint that may not be used is
 noted on the error stream, `note hint not used: log ID: REASON`, and the log is read.

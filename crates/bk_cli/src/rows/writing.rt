@@ -104,6 +104,8 @@ The log is left as it is, with `fault log LOG: REASON`, in these cases:
   sealed already         the header names a map
   bad length AT N        a length field below 16 follows whole records
   torn N at AT           the N bytes from AT on are no whole record
+  written by the direct writer AT
+                         BookKeeper's direct writer wrote it; --cut-torn refuses it too
   too long N             the file has more than 2^32 - 1 bytes
   no room for a map      it would end past byte 2^32 - 1
 If there is a way on, the line `help: TEXT` names it. A log whose file has another name is left too,
@@ -112,12 +114,15 @@ since its bytes would change under both names.
 With --cut-torn a torn end or a bad length is no fault: what follows the last whole record is cut off
 before the log is sealed. If the header names a map that is not there, not whole, or not that of the
 entries, bytes 8 to 20 of the header are cleared. First the whole log is copied to a file beside it,
-1f.log to 1f.log.torn, and synced, so nothing is lost. No reader takes that file for a log, and no
+1f.log to 1f.log.torn, and synced, so no byte of it is lost. No reader takes that file for a log, and no
 command removes it. If a call is killed, the next one goes on with its copy, or with the part of it,
 1f.log.torn.new. If one of them is something else, the log is left, `copy exists: FILE`: move FILE
 away and call it again. Lines before the last:
   cut LOG at AT bytes N copy FILE               N bytes from AT on were cut
   cleared LOG map OFFSET count COUNT copy FILE  the header named this map
+  lost LOG at AT bytes N                        the file had ended at AT, N bytes before this map: what
+                                                they were is in no copy
+  kept LOG copy FILE                            a further copy of bytes that were cut off
 A log of version 0, and one whose map is there after the cut, is cut only. A log with nothing to cut
 or to clear is sealed only, and not copied.
 
@@ -142,6 +147,7 @@ Examples:
   help: './bookie seal --cut-torn' cuts off what is no record, and keeps a copy of the log
   $ ./bookie seal --cut-torn /var/bookie/current 31
   cut 31 at 1049 bytes 10 copy /var/bookie/current/1f.log.torn
+  kept 31 copy /var/bookie/current/1f.log.cut.0
   sealed 31 map 1049 count 1
   $ ./bookie check /var/bookie/current
   0 ok

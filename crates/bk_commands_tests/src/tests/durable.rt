@@ -309,13 +309,14 @@ const TORN: [Row<'static>; 4] = [
     },
     Row {
         words: &["bk_shell", "seal", "--cut-torn", "bk_shell_tail", "0"],
-        output: "cut 0 at 1049 bytes 10 copy bk_shell_tail/0.log.torn\nsealed 0 map 1049 count 1\n",
+        output: "cut 0 at 1049 bytes 10 copy bk_shell_tail/0.log.torn\nkept 0 copy bk_shell_tail/0.log.cut.0\nkept 0 copy bk_shell_tail/0.log.cut.1\nsealed 0 map 1049 count 1\n",
         errors: "note log 0: 25 bytes ignored from position 1059: not durable\n",
         ..DONE
     },
     Row {
         words: &["bk_shell", "check", "bk_shell_tail"],
         output: "0 ok\n",
+        errors: "note copy bk_shell_tail/0.log.cut.0: 25 bytes, 0.log is there\nnote copy bk_shell_tail/0.log.cut.1: 10 bytes, 0.log is there\nnote copy bk_shell_tail/0.log.torn: 1059 bytes, 0.log is there\n",
         ..DONE
     },
     Row {

@@ -206,9 +206,9 @@ fn a_folder_with_other_files(rt: HostRuntime) -> Result<(), Fail> {
 /// A call on a directory without logs.
 const EMPTY: [Row<'static>; 1] = [Row {
     words: &["bk_shell", "check", "bk_shell_none"],
-    status: 0,
+    status: 1,
     output: "",
-    errors: "no log found in bk_shell_none: a log is a file named by its id in hexadecimal, such as 1f.log\n",
+    errors: "fault no log found in bk_shell_none: a log is a file named by its id in hexadecimal, such as 1f.log\n",
 }];
 
 #[test]

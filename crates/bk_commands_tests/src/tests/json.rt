@@ -168,12 +168,13 @@ help: './bookie seal --cut-torn' cuts off what is no record, and keeps a copy of
     },
     Row {
         words: &["bk_shell", "seal", "--cut-torn", "bk_shell_cut", "2.log"],
-        output: "cut 2 at 1048 bytes 3 copy bk_shell_cut/2.log.torn\nsealed 2 map 1048 count 1\n",
+        output: "cut 2 at 1048 bytes 3 copy bk_shell_cut/2.log.torn\nkept 2 copy bk_shell_cut/2.log.cut.0\nsealed 2 map 1048 count 1\n",
         ..DONE
     },
     Row {
         words: &["bk_shell", "check", "bk_shell_cut"],
         output: "0 ok\n1 ok\n2 ok\n",
+        errors: "note copy bk_shell_cut/2.log.cut.0: 3 bytes, 2.log is there\nnote copy bk_shell_cut/2.log.torn: 1051 bytes, 2.log is there\n",
         ..DONE
     },
 ];

@@ -139,7 +139,7 @@ const SEALS: [Row<'static>; 6] = [
             "--all-unsealed",
             "--cut-torn",
         ],
-        output: "cut 4 at 1048 bytes 3 copy bk_shell_unsealed/4.log.torn\nsealed 4 map 1048 count 1\n",
+        output: "cut 4 at 1048 bytes 3 copy bk_shell_unsealed/4.log.torn\nkept 4 copy bk_shell_unsealed/4.log.cut.0\nsealed 4 map 1048 count 1\n",
         ..DONE
     },
     Row {
@@ -150,6 +150,7 @@ const SEALS: [Row<'static>; 6] = [
     Row {
         words: &["bk_shell", "check", "bk_shell_unsealed"],
         output: "0 ok\n1 ok\n2 ok\n4 ok\n5 short\n",
+        errors: "note copy bk_shell_unsealed/4.log.cut.0: 3 bytes, 4.log is there\nnote copy bk_shell_unsealed/4.log.torn: 1051 bytes, 4.log is there\n",
         ..DONE
     },
 ];

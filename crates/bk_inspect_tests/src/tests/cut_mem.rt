@@ -306,6 +306,10 @@ impl Aside for MemAside {
         format!(in alloc; "aside/{log}.new")
     }
 
+    fn others(&self, alloc: Global, _log: u32) -> Result<Vec<String>, AllocError> {
+        Ok(Vec::new(alloc))
+    }
+
     fn copy_reason(&self, _alloc: Global) -> Result<Option<FailedCall>, AllocError> {
         Ok(None)
     }

@@ -196,7 +196,12 @@ fn map_word(alloc: Global, bytes: &[u8], sizes: &Sizes) -> Result<String, AllocE
         return format!(in alloc; "0 unsealed\n");
     }
     let from = usize::try_from(offset).unwrap_or(0);
-    if from < 1024 || from > bytes.len() {
+    let end = bytes.len();
+    if from > end {
+        let missing = from - end;
+        return format!(in alloc; "0 fault cut short at {end} map {from} missing {missing}\n");
+    }
+    if from < 1024 {
         return no_map(alloc, NoMap::NotAMap(from));
     }
     match map_of(alloc, bytes, from, count)? {

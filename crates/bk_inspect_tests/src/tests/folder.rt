@@ -127,9 +127,16 @@ fn check_folder(rt: &impl Abort, host: &HostRuntime, path: &str, rows: &[Row<'_>
     }
 }
 
-/// What is told of a folder without logs.
+/// What is told of a folder without logs, and of one that has a manifest.
 const NONE: &str =
+    "fault no log found in bk_dir_none: a log is a file named by its id in hexadecimal, such as 1f.log\n";
+
+const NONE_YET: &str =
     "no log found in bk_dir_none: a log is a file named by its id in hexadecimal, such as 1f.log\n";
+
+/// What is told of the folder above one with logs.
+const ABOVE: &str =
+    "fault no log found in bk_dir_above: a log is a file named by its id in hexadecimal, such as 1f.log\nhelp: bk_dir_above/current has logs\n";
 
 /// What is told of log 5 where it is a link to nothing.
 const DANGLING: &str = "fault log 5: disk: No such file or directory (os error 2)\n";
@@ -195,15 +202,24 @@ fn a_directory_with_the_name_of_a_log_is_told(rt: HostRuntime) -> Result<(), Fai
 #[test]
 fn a_folder_without_a_log_is_told(rt: HostRuntime) -> Result<(), Fail> {
     let rows = [
-        beside(0, NONE, DirCommand::Check, ""),
-        beside(0, NONE, DirCommand::Logs, ""),
-        beside(0, NONE, find(&rt, 1, 0), "not found\n"),
+        beside(1, NONE, DirCommand::Check, ""),
+        beside(1, NONE, DirCommand::CheckQuick, ""),
+        beside(1, NONE, DirCommand::Logs, ""),
+        beside(1, NONE, DirCommand::Ledgers, ""),
+        beside(1, NONE, find(&rt, 1, 0), "not found\n"),
         told(DirCommand::Scan(0), "fault no log\n"),
     ];
     let _ = fs::remove_dir_all(&rt, "bk_dir_none");
     fs::create_dir(&rt, "bk_dir_none")?;
     fs::write(&rt, "bk_dir_none/1F.log", b"bytes".as_slice())?;
     check_folder(&rt, &rt, "bk_dir_none", &rows);
+    fs::write(&rt, "bk_dir_none/logs.manifest", b"".as_slice())?;
+    check_folder(
+        &rt,
+        &rt,
+        "bk_dir_none",
+        &[beside(0, NONE_YET, DirCommand::Check, "")],
+    );
     fs::remove_dir_all(&rt, "bk_dir_none")?;
     check_folder(
         &rt,
@@ -211,6 +227,21 @@ fn a_folder_without_a_log_is_told(rt: HostRuntime) -> Result<(), Fail> {
         "bk_dir_none",
         &[told(DirCommand::Check, "fault disk\n")],
     );
+    Ok(())
+}
+
+#[test]
+fn the_folder_above_one_with_logs_is_told(rt: HostRuntime) -> Result<(), Fail> {
+    let _ = fs::remove_dir_all(&rt, "bk_dir_above");
+    fs::create_dir(&rt, "bk_dir_above")?;
+    let _ = anew(&rt, "bk_dir_above/current")?;
+    check_folder(
+        &rt,
+        &rt,
+        "bk_dir_above",
+        &[beside(1, ABOVE, DirCommand::Check, "")],
+    );
+    fs::remove_dir_all(&rt, "bk_dir_above")?;
     Ok(())
 }
 

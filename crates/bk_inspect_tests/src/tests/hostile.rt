@@ -7,9 +7,20 @@ use std::process::Abort;
 use std::test::Fail;
 
 /// Lengths to which a sealed log is cut, from one to another, and what `check` tells then.
-const CUTS: [(usize, usize, u8, &str); 5] = [
+const CUTS: [(usize, usize, u8, &str); 6] = [
     (0, 1023, 0, "0 short\n"),
-    (1024, 1048, 1, "0 fault not a map 1049\n"),
+    (
+        1024,
+        1024,
+        1,
+        "0 fault cut short at 1024 map 1049 missing 25\n",
+    ),
+    (
+        1048,
+        1048,
+        1,
+        "0 fault cut short at 1048 map 1049 missing 1\n",
+    ),
     (1049, 1049, 1, "0 fault count differs 0\n"),
     (1050, 1088, 1, "0 fault not a map 1049\n"),
     (1089, 1089, 0, "0 ok\n"),

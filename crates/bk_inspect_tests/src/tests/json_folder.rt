@@ -59,9 +59,9 @@ fn folders_as_json(rt: HostRuntime) -> Result<(), Fail> {
         &rt,
         &rt,
         "bk_dir_\"json\"",
-        0,
+        1,
         "",
-        "{\"note\":\"no log found\",\"folder\":\"bk_dir_\\\"json\\\"\"}\n",
+        "{\"fault\":\"no log found\",\"folder\":\"bk_dir_\\\"json\\\"\"}\n",
     );
     fs::remove_dir_all(&rt, "bk_dir_\"json\"")?;
     Ok(())

@@ -115,8 +115,8 @@ static FAULTS: [Faulty; 9] = [
             length: 1048,
             ..SEALED_LOG
         },
-        "0 fault not a map 1049\n",
-        "\"fault\":\"not a map\",\"at\":1049}\n",
+        "0 fault cut short at 1048 map 1049 missing 1\n",
+        "\"fault\":\"cut short\",\"at\":1048,\"map\":1049,\"missing\":1}\n",
     ),
     (
         File {

@@ -42,18 +42,18 @@ fn fault_of(row: &LogRow) -> &str {
     }
 }
 
-/// The logs at fault on which no store opens; a wrong map is no such fault.
+/// The logs at fault that a compaction passes over.
 const UNOPENED: [(u32, &str); 6] = [
     (0, ""),
     (3, ""),
     (4, "bad length 1064 7"),
     (7, ""),
     (9, "bad magic"),
-    (31, ""),
+    (31, "map differs"),
 ];
 
 #[test]
-fn a_wrong_map_is_no_obstacle_to_a_compaction(rt: HostRuntime) -> Result<(), Fail> {
+fn a_compaction_passes_over_what_is_at_fault(rt: HostRuntime) -> Result<(), Fail> {
     let (surveyed, _) = survey(rt.alloc(), &mut mixed(rt.alloc())?, "d");
     let Some(surveyed) = surveyed else {
         return Err(Fail::new("no survey"));

@@ -1,4 +1,0 @@
-use Rattle.bk_inspect.proofs.find.last_in.Given as goal
-
-abbrev pub decreases-loop-scanner : goal.decreases-loop-scanner
-decreases-loop-scanner g l = l.scanner.left
