@@ -230,11 +230,9 @@ class Full(kit.Case):
                     file.write(bytes(512))
                 except OSError:
                     break
-        out, _ = self.bookie(
-            "script", "--folder", logs, steps="holds 1 0\nfenced 9\nfence 9\nfence 8\n"
-        )
-        self.assertEqual(out.splitlines()[:2], ["yes", "yes"])
-        self.assertEqual(out.splitlines()[2:], ["fault disk", "fault disk"])
+        steps = "holds 1 0\nfenced 9\nfence 9\nfence 8\n"
+        ran = self.call("script", "--folder", logs, steps=steps)
+        self.assertEqual(ran.stdout, b"yes\nyes\nfault disk\nfault disk\n", ran.stderr)
         fill.unlink()
         self.assertEqual(self.script("fence 8", "fenced 9"), ["fenced", "yes"])
 

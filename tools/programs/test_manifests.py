@@ -140,7 +140,8 @@ class Logs(kit.Case):
     def test_rewrite_has_the_length_of_each_log(self):
         self.publish("1 0 hello")
         for entry in range(1, 13):
-            self.script(f"add 1 {entry} x", f"add 2 {entry} y", "swap", "write", "write", "publish")
+            flush = ("swap", "write", "publish")
+            self.script(f"add 1 {entry} x", *flush, f"add 2 {entry} y", *flush)
         path = self.logs / LOGS
         first, _ = manifests.batches(path.read_bytes())
         self.assertEqual(self.script("holds 1 0", "holds 2 12"), ["yes", "yes"])

@@ -90,7 +90,7 @@ class Notes(kit.Case):
             self.logs = self.room / name
             self.publish("1 0 hello", after=["fence 9"])
             path = self.logs / name
-            data = path.read_bytes() + b"\0\0\0\5torn"
+            data = path.read_bytes() + bytes(8)
             path.write_bytes(data)
             found = self.noted()
             self.assertEqual(len(found), 1, found)

@@ -8,7 +8,7 @@ ghost use Rattle.bk_manifest.specs.File.{content_of};
 ghost use Rattle.bk_manifest.specs.Keeping.{FailsExactlyIf, IsSameFile, IsOldOrNew, KeepsFront, durable, FindsDurable, HasOpened, OnlyNoted, IsOneOf};
 
 use crate::appending::appended;
-use crate::rewriting::replaced;
+use crate::rewriting::{is_replaced, replaced};
 use crate::{
     FileFault, ManifestError, Mark, NotRewritten, Record, State, new_header, read_manifest,
 };
@@ -73,10 +73,9 @@ pub trait ManifestFile: Drop {
 /// A manifest in a file, and the state that its records mean. Records are noted first, and are durable
 /// after the next `commit`.
 ///
-/// After a call that failed, the file may have other bytes behind the batches that count. So the next
-/// call that writes puts a new file of these in its place first (`settle`). The same holds of a file
-/// that was found and could not be written anew: its records count, but may not be durable, and
-/// nothing more is recorded before they are (`is_written`).
+/// After a call that failed, other bytes may be behind the batches that count: the next call that
+/// writes puts a new file of these in its place first (`settle`). So it does if a file that was found
+/// could not be written anew; till then its records count, but may not be durable (`is_written`).
 #[derive(Drop)]
 pub struct Manifest<F: ManifestFile> {
     file: F,
@@ -89,28 +88,6 @@ pub struct Manifest<F: ManifestFile> {
     is_written: bool,
     /// Whether the file is the front, and no call on it failed since.
     is_exact: bool,
-}
-
-/// Replaces a file by one of these bytes. Returns false if the device fails: then it is the old file or
-/// the new one.
-fn is_replaced<F: ManifestFile>(
-    alloc: Global,
-    file: &mut F,
-    whole: &[u8],
-) -> Result<bool, ManifestError>
-    ensures honest { F.honest file.new ≡ F.honest file.old }
-    ensures later { F.failures file.old ≤ F.failures file.new }
-    ensures failed { IfOk result (λ is. is ≡ false → F.failures file.old < F.failures file.new) }
-    ensures one { IsTrue (F.honest file.old) → IsOldOrNew (F.bytes file.old) (F.synced file.old) whole.now (F.bytes file.new) (F.synced file.new) }
-    ensures bytes { IsTrue (F.honest file.old) → IfOk result (λ is. is ≡ true → F.bytes file.new ≡ whole.now) }
-    ensures durable { IsTrue (F.honest file.old) → IfOk result (λ is. is ≡ true → length (F.bytes file.new) ≤ F.synced file.new) }
-    ensures only { OnErr result (IsErrOf result ManifestError.Memory) }
-{
-    match file.replace(alloc, whole) {
-        Ok(()) => Ok(true),
-        Err(FileFault::Disk) => Ok(false),
-        Err(FileFault::Memory) => Err(ManifestError::Memory),
-    }
 }
 
 /// A manifest that was opened.
@@ -147,12 +124,8 @@ impl<F: ManifestFile> Model for Manifest<F> {
 }
 
 impl<F: ManifestFile> Manifest<F> {
-    /// Makes a manifest of this generation without records, in the place of what the file had.
-    ///
-    /// # Errors
-    ///
-    /// - `Memory` if an allocation is refused.
-    /// - `Disk` if the device fails. The old file is there, or the new one.
+    /// Makes a manifest of this generation without records, in the place of what the file had. Errors as
+    /// `settle`.
     pub fn create(alloc: Global, file: F, generation: u64) -> Result<Manifest<F>, ManifestError>
         ensures honest { IfOk result (λ m. m.honest ≡ F.honest file) }
         ensures empty { IsTrue (F.honest file) → IfOk result (λ m. durable m ≡ []) }
@@ -178,13 +151,11 @@ impl<F: ManifestFile> Manifest<F> {
 
     /// Opens the manifest of a file. Returns `None` if the file is empty or absent. Puts a new file of
     /// its whole batches in its place, since a program that ended may have left bytes that are not
-    /// durable, or a torn end. If the device fails in this, the manifest is opened all the same, and is
-    /// not written (`is_written`).
+    /// durable, or a torn end. If the device fails in this, it is opened, and not written.
     ///
     /// # Errors
     ///
-    /// - `Memory` if an allocation is refused.
-    /// - `Disk` if the file cannot be read.
+    /// - `Memory` if an allocation is refused; `Disk` if the file cannot be read.
     /// - `Fault` as `read_manifest` reports.
     pub fn open(alloc: Global, file: F) -> Result<Option<Opened<F>>, ManifestError>
         ensures honest { IfOk result (λ found. IfSome found (λ opened. opened.manifest.honest ≡ F.honest file)) }
@@ -231,8 +202,7 @@ impl<F: ManifestFile> Manifest<F> {
         Ok(())
     }
 
-    /// Notes a record in the place of all that were noted. Fails if an allocation is refused; then
-    /// those stay noted.
+    /// Notes a record in the place of all that were noted. Those stay if an allocation is refused.
     pub fn note_only(&mut self, alloc: Global, one: Record) -> Result<(), AllocError>
         ensures ok { OnOk result (self.new.pending ≡ fact one ∷ []) }
         ensures err { OnErr result (self.new.pending ≡ self.old.pending) }
@@ -254,15 +224,11 @@ impl<F: ManifestFile> Manifest<F> {
     }
 
     /// Puts a new file of the batches that count in the place of this one, durably, unless the file is
-    /// that already. Then an opening finds the durable records, and none of the noted ones, which stay
-    /// noted.
-    ///
-    /// An error changes nothing, except that the file may be the new one.
+    /// that already. Then an opening finds the durable records, and none of the noted ones.
     ///
     /// # Errors
     ///
-    /// - `Memory` if an allocation is refused.
-    /// - `Disk` if the device fails.
+    /// `Memory` if an allocation is refused, `Disk` if the device fails. The file may be the new one.
     pub fn settle(&mut self, alloc: Global) -> Result<(), ManifestError>
         ensures honest { self.new.honest ≡ self.old.honest }
         ensures cause { FailsExactlyIf self.old.failures self.new.failures (IsErrOf result ManifestError.Disk) }
@@ -289,15 +255,11 @@ impl<F: ManifestFile> Manifest<F> {
     /// Writes all noted records as one batch and syncs the file once, after `settle`. Then they are
     /// durable, and the state has them.
     ///
-    /// An error changes neither the durable records nor the noted ones. The file may have the batch, so
-    /// a later opening may find its records, until the next call writes the file anew: `commit` again,
-    /// `settle` or `withdraw`.
-    ///
     /// # Errors
     ///
-    /// - `TooLong` if the bytes of an attribute, or of all records together, are 2^32 or more.
-    /// - `Memory` if an allocation is refused.
-    /// - `Disk` if the device fails.
+    /// `TooLong` if the bytes of an attribute, or of all records together, are 2^32 or more; those of
+    /// `settle`. Neither the durable records nor the noted ones change. The file may have the batch, and
+    /// an opening may find it, until `commit`, `settle` or `withdraw` succeeds.
     pub fn commit(&mut self, alloc: Global) -> Result<(), ManifestError>
         ensures honest { self.new.honest ≡ self.old.honest }
         ensures cause { FailsExactlyIf self.old.failures self.new.failures (IsErrOf result ManifestError.Disk) }
@@ -332,12 +294,9 @@ impl<F: ManifestFile> Manifest<F> {
     /// Takes the noted records back, which a `commit` that failed may have left in the file. Then an
     /// opening finds the durable records only. Calls no device if no call failed.
     ///
-    /// An error leaves them noted, and maybe in the file.
-    ///
     /// # Errors
     ///
-    /// - `Memory` if an allocation is refused.
-    /// - `Disk` if the device fails.
+    /// Those of `settle`. They stay noted, and may be in the file.
     pub fn withdraw(&mut self, alloc: Global) -> Result<(), ManifestError>
         ensures honest { self.new.honest ≡ self.old.honest }
         ensures cause { FailsExactlyIf self.old.failures self.new.failures (IsErrOf result ManifestError.Disk) }
@@ -359,11 +318,7 @@ impl<F: ManifestFile> Manifest<F> {
 
     /// Replaces the file by the shortest manifest of the same meaning, of the next generation, without
     /// the deletions of the ledgers `forgotten`: those of which no log has an entry any more. Noted
-    /// records stay noted.
-    ///
-    /// # Errors
-    ///
-    /// Those of `commit`, with the file. It is the old one or the new one: open it again.
+    /// records stay. Errors as `commit`, with the file: the old one or the new one. Open it again.
     pub fn rewrite(self, alloc: Global, forgotten: &[u64]) -> Result<Manifest<F>, NotRewritten<F>>
         ensures honest { IfOk result (λ m. m.honest ≡ self.honest) }
         ensures ok { IsTrue self.honest → IfOk result (λ m. SameMeaning (without_deletions forgotten.now (durable self)) (durable m)) }

@@ -1,13 +1,13 @@
 //! The shortest manifest of a state.
 
-ghost use Rattle.std.specs.Prelude.{◌≡◌, ◌∷◌, [], ℕ, List, IfOk, OnOk, OnErr, IsTrue, length};
+ghost use Rattle.std.specs.Prelude.{◌≡◌, ◌∷◌, ◌<◌, ◌≤◌, [], ℕ, List, true, false, IfOk, OnOk, OnErr, IsErrOf, IsTrue, length};
 ghost use Rattle.bk_manifest.specs.Fact.{Fact, AreFacts};
 ghost use Rattle.bk_manifest.specs.File.{written};
-ghost use Rattle.bk_manifest.specs.Keeping.{IsBelieved, IsOneOf, MeansAt, durable_up_to};
+ghost use Rattle.bk_manifest.specs.Keeping.{IsBelieved, IsOldOrNew, IsOneOf, MeansAt, durable_up_to};
 ghost use Rattle.bk_manifest.specs.State.{IsStateOf, SameMeaning, standing};
 
 use crate::reading::HEADER;
-use crate::{ManifestError, ManifestFile, State, WriteError, new_header, write_batch};
+use crate::{FileFault, ManifestError, ManifestFile, State, WriteError, new_header, write_batch};
 use std::alloc::Global;
 
 /// A manifest that could not be rewritten.
@@ -53,4 +53,26 @@ pub(crate) fn replaced<F: ManifestFile>(
     let whole = rewritten(alloc, generation, state)?;
     file.replace(alloc, &whole)?;
     Ok(whole)
+}
+
+/// Replaces a file by one of these bytes. Returns false if the device fails: then it is the old file or
+/// the new one.
+pub(crate) fn is_replaced<F: ManifestFile>(
+    alloc: Global,
+    file: &mut F,
+    whole: &[u8],
+) -> Result<bool, ManifestError>
+    ensures honest { F.honest file.new ≡ F.honest file.old }
+    ensures later { F.failures file.old ≤ F.failures file.new }
+    ensures failed { IfOk result (λ is. is ≡ false → F.failures file.old < F.failures file.new) }
+    ensures one { IsTrue (F.honest file.old) → IsOldOrNew (F.bytes file.old) (F.synced file.old) whole.now (F.bytes file.new) (F.synced file.new) }
+    ensures bytes { IsTrue (F.honest file.old) → IfOk result (λ is. is ≡ true → F.bytes file.new ≡ whole.now) }
+    ensures durable { IsTrue (F.honest file.old) → IfOk result (λ is. is ≡ true → length (F.bytes file.new) ≤ F.synced file.new) }
+    ensures only { OnErr result (IsErrOf result ManifestError.Memory) }
+{
+    match file.replace(alloc, whole) {
+        Ok(()) => Ok(true),
+        Err(FileFault::Disk) => Ok(false),
+        Err(FileFault::Memory) => Err(ManifestError::Memory),
+    }
 }

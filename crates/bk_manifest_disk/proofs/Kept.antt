@@ -154,10 +154,6 @@ pub sync_by : (files kept : Files) (log : ℕ) (r : Result (Unit {0}) DiskFault)
 sync_by files kept log (Ok x) E on all = all on
 sync_by files kept log (Err e) E on all = tt
 
-pub sync_sure : (files kept : Files) (log : ℕ) (r : Result (Unit {0}) DiskFault) → IsDurable kept log (file_of files log) → SyncDurability files log r kept
-sync_sure files kept log (Ok x) all = all
-sync_sure files kept log (Err e) all = tt
-
 module _ (files mid files' : Files) (log n : ℕ) (file : List ℕ) (kept gone kept' gone' : Files) (same : mid ≡ files) (there : map.get mid log ≡ Some file) (last : files' ≡ mid)
     (has : IsDurable kept log (file_of files log)) (more : DurableGrows kept gone kept' gone') where
   file_there : map.get files log ≡ Some file

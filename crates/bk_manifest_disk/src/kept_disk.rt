@@ -4,7 +4,7 @@ ghost use Rattle.std.specs.Prelude.{◌≡◌, IsTrue};
 
 use crate::Reach;
 use crate::reach::mark_of;
-use crate::recording::{durable_length, has_length, make_sure, note_mark, record, shorten};
+use crate::recording::{durable_length, has_length, note_mark, record, shorten};
 use bk_disk::{CutDisk, DiskFault, LogDisk};
 use bk_manifest::{Manifest, ManifestFile, Record};
 use std::alloc::Global;
@@ -179,7 +179,7 @@ impl<D: LogDisk, F: ManifestFile + Send> LogDisk for KeptDisk<D, F> {
         self.inner.sync(alloc, log)?;
         let length = self.inner.length(alloc, log)?;
         if has_length(self.manifest.state(), log, length) {
-            return make_sure(alloc, &mut self.manifest);
+            return Ok(());
         }
         note_mark(&mut self.manifest, mark_of(&self.ledgers));
         record(

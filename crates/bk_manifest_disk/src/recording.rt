@@ -1,6 +1,6 @@
 //! One record more in a manifest.
 
-ghost use Rattle.std.specs.Prelude.{unwrap_or, true, ◌≡◌, ◌↔◌, Some, ◌⊎◌, ◌++◌, ◌∷◌, [], IsTrue, IsErrOf, OnOk, OnErr, is_ok};
+ghost use Rattle.std.specs.Prelude.{unwrap_or, ◌≡◌, ◌↔◌, Some, ◌⊎◌, ◌++◌, ◌∷◌, [], IsTrue, IsErrOf, OnOk, OnErr};
 ghost use Rattle.bk_disk.specs.Disk.{FailsExactlyOnDiskFault};
 ghost use Rattle.bk_manifest.specs.Fact.{fact};
 ghost use Rattle.bk_manifest.specs.Keeping.{durable};
@@ -11,19 +11,6 @@ ghost use Rattle.bk_manifest_disk.specs.Table.{recorded};
 use bk_disk::DiskFault;
 use bk_manifest::{LogState, Manifest, ManifestError, ManifestFile, Mark, Record, State};
 use std::alloc::Global;
-
-/// Returns what a disk answers if its manifest answers so.
-fn answer_of(answer: Result<(), ManifestError>) -> Result<(), DiskFault>
-    ensures ok { is_ok result ≡ is_ok answer }
-    ensures disk { IsErrOf result DiskFault.Disk ↔ IsErrOf answer ManifestError.Disk }
-    ensures only { OnErr result (IsErrOf result DiskFault.Disk ⊎ IsErrOf result DiskFault.Memory) }
-{
-    match answer {
-        Ok(()) => Ok(()),
-        Err(ManifestError::Disk) => Err(DiskFault::Disk),
-        Err(_) => Err(DiskFault::Memory),
-    }
-}
 
 /// Makes a record durable, with those that are noted.
 ///
@@ -49,30 +36,11 @@ pub(crate) fn record<F: ManifestFile>(
     if manifest.note(one).is_err() {
         return Err(DiskFault::Memory);
     }
-    answer_of(manifest.commit(alloc))
-}
-
-/// Makes the durable records so, if the manifest was found and not written yet.
-///
-/// # Errors
-///
-/// - `Disk` if the device of the manifest failed.
-/// - `Memory` if an allocation is refused.
-pub(crate) fn make_sure<F: ManifestFile>(
-    alloc: Global,
-    manifest: &mut Manifest<F>,
-) -> Result<(), DiskFault>
-    ensures honest { manifest.new.honest ≡ manifest.old.honest }
-    ensures cause { FailsExactlyOnDiskFault manifest.old.failures manifest.new.failures result }
-    ensures same { IsTrue manifest.old.honest → durable manifest.new ≡ durable manifest.old }
-    ensures noted { manifest.new.pending ≡ manifest.old.pending }
-    ensures written { OnOk result (manifest.new.written ≡ true) }
-    ensures only { OnErr result (IsErrOf result DiskFault.Disk ⊎ IsErrOf result DiskFault.Memory) }
-{
-    if manifest.is_written() {
-        return Ok(());
+    match manifest.commit(alloc) {
+        Ok(()) => Ok(()),
+        Err(ManifestError::Disk) => Err(DiskFault::Disk),
+        Err(_) => Err(DiskFault::Memory),
     }
-    answer_of(manifest.settle(alloc))
 }
 
 /// Notes how far the manifest of the ledgers is durable, unless the last record has that or an

@@ -97,7 +97,7 @@ fn each_call_of_the_manifest_fails_once(rt: HostRuntime) {
     }
 }
 
-/// A manifest that cannot be written anew is opened, and a sync is not answered before it is.
+/// A manifest that cannot be written anew is opened, and written before the next record.
 #[test]
 fn a_manifest_that_cannot_be_written_anew_is_opened(rt: HostRuntime) {
     let alloc = rt.alloc();
@@ -111,6 +111,7 @@ fn a_manifest_that_cannot_be_written_anew_is_opened(rt: HostRuntime) {
     assert_eq!(rt; disk.count_failures(), 1);
     assert!(rt; has(alloc, &mut disk, 1, Some(b"abcd")));
     assert_eq!(rt; disk.sync(alloc, 1), Ok(()));
-    assert!(rt; disk.manifest().is_written());
+    assert!(rt; !disk.manifest().is_written());
     assert_eq!(rt; disk.create(alloc, 2), Ok(()));
+    assert!(rt; disk.manifest().is_written());
 }

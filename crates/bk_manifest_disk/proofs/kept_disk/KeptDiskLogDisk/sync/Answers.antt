@@ -5,12 +5,11 @@ use Rattle.bk_disk.proofs.DurableGrows.{keeps_trans}
 use Rattle.bk_manifest.specs.Fact.{durable_log}
 use Rattle.bk_manifest.specs.Keeping.{durable}
 use Rattle.bk_manifest.specs.State.{the_log, log_state, length_of}
-use Rattle.bk_manifest_disk.specs.Table.{recorded}
 use Rattle.bk_manifest_disk.specs.Recording.{promised, promise, Rises}
 use Rattle.bk_manifest_disk.proofs.Grown.{alike_equal, measures_equal, syncs_equal}
 use Rattle.bk_manifest_disk.proofs.Recorded.{recorded_grown, same_recorded, noted_mark, synced_holds, alike_rises, rises_trans}
 use Rattle.bk_manifest_disk.proofs.DurableFronts.{fronts_grow}
-use Rattle.bk_manifest_disk.proofs.Kept.{fronts_alike, fronts_refused, after_record, record_up, sync_by, sync_sure, synced_file, sync_done, last_record, promised_of_length}
+use Rattle.bk_manifest_disk.proofs.Kept.{fronts_alike, after_record, record_up, sync_by, synced_file, sync_done, last_record, promised_of_length}
 use Rattle.bk_manifest_disk.proofs.kept_disk.KeptDiskLogDisk.sync.Goals as goal
 
 pub invariant_of-self : goal.invariant_of-self
@@ -40,21 +39,16 @@ returns-in_err-length-clause-durable g c = λ h.
 pub invariant_of-self-then-has_length : goal.invariant_of-self-then-has_length
 invariant_of-self-then-has_length g c = λ honest kept.
     let was = sym c.sync.ensures.honest ∙ sym c.length.ensures.honest ∙ honest in
-    let m = sym c.make_sure.ensures.honest ∙ kept in
     let here = c.sync.ensures.honest ∙ was in
     let same = measures_equal _ _ _ _ (c.length.ensures.transition here) ∙ syncs_equal _ _ _ _ (c.sync.ensures.transition was) in
-    same_recorded _ _ _ _ _
-    (recorded_grown _ _ _ _ _ _ _ _ (c.self.invariant was m) (alike_equal _ _ same) (keeps_trans _ _ _ _ _ _ (c.sync.ensures.durable was) (c.length.ensures.durable here)))
-    _ _ (c.make_sure.ensures.same m) c.make_sure.ensures.noted
+    recorded_grown _ _ _ _ _ _ _ _ (c.self.invariant was kept) (alike_equal _ _ same) (keeps_trans _ _ _ _ _ _ (c.sync.ensures.durable was) (c.length.ensures.durable here))
 
 pub returns-then-has_length-clause-durable : goal.returns-then-has_length-clause-durable
 returns-then-has_length-clause-durable g c = λ h.
     let was = ap (λ d. d.honest) c.self.view_is ∙ (and_parts _ _ h).0 in
-    let m = ap (λ d. d.manifest.honest) c.self.view_is ∙ (and_parts _ _ h).1 in
     let here = c.sync.ensures.honest ∙ was in
     let same = measures_equal _ _ _ _ (c.length.ensures.transition here) ∙ syncs_equal _ _ _ _ (c.sync.ensures.transition was) in
-    rw (sym c.self.view_is) (fronts_refused _ _ _ _ _ _ _ _ (c.make_sure.ensures.same m)
-    (keeps_trans _ _ _ _ _ _ (c.sync.ensures.durable was) (c.length.ensures.durable here)) (alike_equal _ _ same))
+    rw (sym c.self.view_is) (fronts_alike _ _ _ _ _ _ _ (keeps_trans _ _ _ _ _ _ (c.sync.ensures.durable was) (c.length.ensures.durable here)) (alike_equal _ _ same))
 
 pub returns-then-has_length-clause-syncs : goal.returns-then-has_length-clause-syncs
 returns-then-has_length-clause-syncs g c = λ h.
@@ -63,8 +57,8 @@ returns-then-has_length-clause-syncs g c = λ h.
     let here = c.sync.ensures.honest ∙ was in
     let turn = c.in_ok-length.ensures.transition here in
     let is = promised_of_length _ _ (ap (λ o. length_of (log_state o)) (sym (c.state.ensures m (the_log c.args.log))) ∙ c.has_length.ensures.0 c.if-has_length.true) in
-    rw (sym c.self.view_is) (sync_sure _ _ _ c.make_sure.result (sync_done _ _ _ _ _ turn.0 _ _ _ _ (syncs_equal _ _ _ _ (c.sync.ensures.transition was)) turn.1 turn.3
-    (c.in_ok-sync.ensures.syncs was) (c.length.ensures.durable here) _ (ap (λ xs. promised (recorded xs c.args.log)) (c.make_sure.ensures.same m) ∙ is) turn.2))
+    rw (sym c.self.view_is) (sync_done _ _ _ _ _ turn.0 _ _ _ _ (syncs_equal _ _ _ _ (c.sync.ensures.transition was)) turn.1 turn.3 (c.in_ok-sync.ensures.syncs was)
+    (c.length.ensures.durable here) _ is turn.2)
 
 pub invariant_of-self-2 : goal.invariant_of-self-2
 invariant_of-self-2 g c = λ honest kept.
