@@ -114,6 +114,9 @@ class Short(kit.Case):
         self.assertEqual(self.bookie("check", self.logs)[0], "1 unsealed\n")
         self.assertIn(" open\n", self.bookie("logs", self.logs)[0])
         self.assertEqual(self.bookie("check", "--no-manifest", self.logs)[0], "1 ok\n")
+        out, _ = self.bookie("seal", "--cut-torn", self.logs, "1")
+        self.assertNotIn("lost", out)
+        self.assertIn(f"sealed 1 map {self.map} ", out)
 
     def test_cut_names_each_copy(self):
         (self.logs / "1.log").write_bytes(log_files.open_log(LIVE, b"\0\0\0\x50torn"))

@@ -52,7 +52,9 @@ class Missing(kit.Case):
         self.bookie("compact", self.logs, status=1)
 
     def test_report_names_the_fault(self):
-        self.bookie("report", self.logs, status=1)
+        page, errors = self.bookie("report", self.logs, status=1)
+        self.assertIn("durable bytes missing: log 0 with 1089 durable bytes is missing", page)
+        self.assertIn("durable bytes missing: log 0", errors)
 
     def test_rebuild_is_the_way_on(self):
         self.assertIn("missing 0 durable 1089", self.bookie("manifest", "--rebuild", self.logs)[0])

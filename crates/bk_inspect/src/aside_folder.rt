@@ -39,6 +39,8 @@ pub struct AsideFolder<'a> {
     copy: Option<File>,
     /// The draft that is written.
     draft: Option<File>,
+    /// The length of the log's file.
+    file_end: Option<u64>,
     refused: Option<Refused>,
 }
 
@@ -50,6 +52,7 @@ impl<'a> AsideFolder<'a> {
             path,
             copy: None,
             draft: None,
+            file_end: None,
             refused: None,
         }
     }
@@ -93,6 +96,11 @@ impl<'a> Aside for AsideFolder<'a> {
     ghost honest = { λ _. false };
 
     fn length(&mut self, alloc: Global, log: u32) -> Result<u64, DiskFault> {
+        let file = self.beside(alloc, log, "")?;
+        self.file_end = match fs::metadata(&self.rt, file.as_str()) {
+            Ok(found) => Some(found.len()),
+            Err(_) => None,
+        };
         let path = self.beside(alloc, log, COPY)?;
         let found = tried(Operation::Open, look_at(&self.rt, &path));
         match self.answer(alloc, log, COPY, found)? {
@@ -173,6 +181,10 @@ impl<'a> Aside for AsideFolder<'a> {
 
     fn others(&self, alloc: Global, log: u32) -> Result<Vec<String>, AllocError> {
         cuts_of(&self.rt, alloc, self.path, &name_of(alloc, log)?)
+    }
+
+    fn file_end(&self) -> Option<u64> {
+        self.file_end
     }
 
     fn copy_reason(&self, alloc: Global) -> Result<Option<FailedCall>, AllocError> {

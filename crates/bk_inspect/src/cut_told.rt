@@ -70,9 +70,11 @@ impl Display for LostRow {
 }
 
 impl LostRow {
-    /// Returns the row of a log that was cut; `None` if its file had all bytes before its map.
-    fn of(log: u32, cut: &Cut) -> Option<LostRow> {
+    /// Returns the row of a log that was cut; `None` if its file, which ended there if that is known, had
+    /// all bytes before its map.
+    fn of(log: u32, cut: &Cut, file_end: Option<u64>) -> Option<LostRow> {
         let at = cut.at.saturating_add(cut.bytes);
+        let at = file_end.unwrap_or(at).max(at);
         let bytes = map_past(at, &cut.header)?.saturating_sub(at);
         Some(LostRow {
             log,
@@ -127,7 +129,7 @@ pub(crate) fn show_cut<A: Aside, W: Write>(
             copy: copy.as_str(),
         };
         write_row(alloc, form, &row, writer)?;
-        if let Some(row) = LostRow::of(log, cut) {
+        if let Some(row) = LostRow::of(log, cut, aside.file_end()) {
             write_row(alloc, form, &row, writer)?;
         }
     }

@@ -135,6 +135,12 @@ pub trait Aside: Drop {
     /// of memory.
     fn others(&self, alloc: Global, log: u32) -> Result<Vec<String>, AllocError>;
 
+    /// Returns the length that the log's file had when its copy was asked for, with the bytes that
+    /// were not durable; `None` if that is not known.
+    fn file_end(&self) -> Option<u64> {
+        None
+    }
+
     /// Returns the last call of the system that failed. The only error is out of memory.
     fn copy_reason(&self, alloc: Global) -> Result<Option<FailedCall>, AllocError>;
 }

@@ -372,35 +372,3 @@ fn tell_reason<E: Write>(
     }
     Ok(())
 }
-
-/// The row of a log that cannot be read to its end.
-#[derive(Clone, Copy, Serialize)]
-struct DamageRow {
-    #[serde(flatten)]
-    fault: FaultMembers,
-    log: u32,
-    #[serde(skip)]
-    text: BytesFault,
-}
-
-impl Display for DamageRow {
-    fn fmt<W: fmt::Write>(&self, f: &mut Formatter<W>) -> fmt::Result {
-        write!(f, "fault log {}: {}", self.log, self.text)
-    }
-}
-
-/// Reports a log that cannot be read to its end. A failed write is ignored.
-pub(crate) fn tell_damage<E: Write>(
-    alloc: Global,
-    form: Form,
-    log: u32,
-    fault: BytesFault,
-    errors: &mut E,
-) {
-    let row = DamageRow {
-        fault: fault.members(),
-        log,
-        text: fault,
-    };
-    let _ = write_row(alloc, form, &row, errors);
-}

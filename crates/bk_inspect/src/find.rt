@@ -3,8 +3,8 @@
 ghost use Rattle.std.specs.Prelude.{◌≤◌, IfOk};
 ghost use Rattle.bk_inspect.specs.Reading.{OnlyReads};
 
+use crate::damage::tell_damage;
 use crate::data::{data_text, show_data};
-use crate::fault::tell_damage;
 use crate::form::{write_object, write_row};
 use crate::turns::Turns;
 use crate::walk::{Judged, TakesEntries, judged_view, take_in_view};

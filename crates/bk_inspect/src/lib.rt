@@ -14,6 +14,7 @@ mod cut_kept;
 mod cut_run;
 mod cut_told;
 mod cutting;
+mod damage;
 mod data;
 mod digest;
 mod digests;

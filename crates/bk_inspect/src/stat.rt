@@ -4,7 +4,8 @@ ghost use Rattle.std.specs.Prelude.{◌≤◌, IfOk};
 ghost use Rattle.bk_inspect.specs.Reading.{OnlyReads};
 
 use crate::calls::view_of;
-use crate::fault::{tell_damage, tell_end};
+use crate::damage::tell_damage;
+use crate::fault::tell_end;
 use crate::form::write_row;
 use crate::header::read_head;
 use crate::listing::{LogStanding, state_of};

@@ -15,7 +15,7 @@ ghost use Rattle.bk_inspect.specs.declared.fault.DirFault.TheVariants as faults;
 
 use crate::calls::view_of;
 use crate::check::{Health, compare_map};
-use crate::fault::tell_damage;
+use crate::damage::tell_damage;
 use crate::header::{Head, read_head};
 use crate::ledgers::{Counted, counted_ledgers};
 use crate::turns::Turns;

@@ -111,11 +111,13 @@ const BEHIND: [Row<'static>; 12] = [
     Row {
         words: &["bk_shell", "check", "bk_shell_behind"],
         output: "0 ok\n",
+        errors: "note copy bk_shell_behind/0.log.cut.0: 25 bytes, 0.log is there\n",
         ..DONE
     },
     Row {
         words: &["bk_shell", "check", "--no-manifest", "bk_shell_behind"],
         output: "0 ok\n",
+        errors: "note copy bk_shell_behind/0.log.cut.0: 25 bytes, 0.log is there\n",
         ..DONE
     },
     Row {

@@ -67,6 +67,7 @@ const SHORT: [Row<'static>; 9] = [
     Row {
         words: &["bk_shell", "check", "--long", "bk_shell_short"],
         output: "0 unsealed torn 20\n",
+        errors: "note copy bk_shell_short/logs.manifest.damaged: 66 bytes, logs.manifest is there\n",
         ..DONE
     },
 ];
@@ -257,6 +258,7 @@ const DAMAGED: [Row<'static>; 5] = [
     Row {
         words: &["bk_shell", "check", "bk_shell_logs_hurt"],
         output: "0 unsealed\n",
+        errors: "note copy bk_shell_logs_hurt/logs.manifest.damaged: 66 bytes, logs.manifest is there\n",
         ..DONE
     },
 ];

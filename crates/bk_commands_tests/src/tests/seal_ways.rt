@@ -39,12 +39,13 @@ help: './bookie seal --cut-torn' cuts off what is no record, and keeps a copy of
     },
     Row {
         words: &["bk_shell", "seal", "--cut-torn", "bk_seal_part", "0"],
-        output: "cut 0 at 1049 bytes 20 copy bk_seal_part/0.log.torn\nsealed 0 map 1049 count 1\n",
+        output: "cut 0 at 1049 bytes 20 copy bk_seal_part/0.log.torn\nkept 0 copy bk_seal_part/0.log.cut.0\nsealed 0 map 1049 count 1\n",
         ..DONE
     },
     Row {
         words: &["bk_shell", "check", "bk_seal_part"],
         output: "0 ok\n",
+        errors: "note copy bk_seal_part/0.log.cut.0: 20 bytes, 0.log is there\nnote copy bk_seal_part/0.log.torn: 1069 bytes, 0.log is there\n",
         ..DONE
     },
     Row {
@@ -89,6 +90,7 @@ help: if './bookie check' finds its map wrong, './bookie seal --cut-torn' writes
     Row {
         words: &["bk_shell", "check", "bk_seal_half"],
         output: "0 ok\n",
+        errors: "note copy bk_seal_half/0.log.torn: 1089 bytes, 0.log is there\n",
         ..DONE
     },
 ];
@@ -190,7 +192,7 @@ const TWO_NAMES: [Row<'static>; 3] = [
 /// The same once a copy is in its place.
 const ONE_NAME: [Row<'static>; 1] = [Row {
     words: &["bk_shell", "seal", "--cut-torn", "bk_seal_names", "0"],
-    output: "cut 0 at 1049 bytes 3 copy bk_seal_names/0.log.torn\nsealed 0 map 1049 count 1\n",
+    output: "cut 0 at 1049 bytes 3 copy bk_seal_names/0.log.torn\nkept 0 copy bk_seal_names/0.log.cut.0\nsealed 0 map 1049 count 1\n",
     ..DONE
 }];
 

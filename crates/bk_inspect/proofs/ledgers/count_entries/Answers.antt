@@ -32,8 +32,8 @@ loop-sizes-preserved g c =
           (c.in-Ok-take_in.ensures first (taken ++ before) payload keyed sized (has first taken h)));
     }
 
-pub returns : goal.returns
-returns g c = λ honest.
+pub returns-in-Ok-into_map : goal.returns-in-Ok-into_map
+returns-in-Ok-into_map g c = λ honest.
     let now = c.loop-sizes.scanner in
     let next = c.next.new.self in
     let file = g.V.LogView.bytes c.args.view.now in
