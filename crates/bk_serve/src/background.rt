@@ -136,7 +136,7 @@ impl Background {
     /// Performs a step. A compaction begins with a log that is not passed over.
     #[tactic(auto, using(crate::proofs::Steps::then, crate::proofs::Steps::stays))]
     fn perform<D: LogDisk>(&self, store: &mut Store<D>, tally: &mut Tally, work: Work) -> Answer
-        ensures works { Extends tally.old store.old tally.new store.new }
+        ensures { Extends tally.old store.old tally.new store.new }
     {
         match work {
             Work::Begin(kind) => Answer::Begin(begin_step(store, tally, kind, self.passing.ids())),

@@ -86,15 +86,15 @@ impl<R: Wait + Drop> Served<R> {
         }
     }
 
-    /// Reports the logs that compactions have passed over since the last report.
-    fn tell_passed(&mut self) {
-        let count = self.host.background.passed_count();
-        for number in self.told..count {
-            if let Some(PassedLog { log, cause }) = self.host.background.passed(number) {
-                let _ = writeln!(self.errors, "note log {log}: not compacted: {cause}");
+    /// Reports the logs that compactions have passed over since `told` were. Returns their number.
+    fn tell_passed(errors: &mut Stderr, told: usize, host: &Host<ServedDisk, KeptFile>) -> usize {
+        let count = host.background.passed_count();
+        for number in told..count {
+            if let Some(PassedLog { log, cause }) = host.background.passed(number) {
+                let _ = writeln!(errors, "note log {log}: not compacted: {cause}");
             }
         }
-        self.told = count;
+        count
     }
 
     /// Has hints written if a log has been sealed.
@@ -130,7 +130,7 @@ impl<R: Wait + Drop> Service for Served<R> {
             self.host.background.stir();
         }
         Self::look(&mut self.watch, &self.host);
-        self.tell_passed();
+        self.told = Self::tell_passed(&mut self.errors, self.told, &self.host);
         answered
     }
 
@@ -147,7 +147,7 @@ impl<R: Wait + Drop> Service for Served<R> {
     fn work(&mut self) {
         self.host.background.work(&mut self.host.store);
         Self::look(&mut self.watch, &self.host);
-        self.tell_passed();
+        self.told = Self::tell_passed(&mut self.errors, self.told, &self.host);
     }
 }
 

@@ -10,4 +10,4 @@ pub returns-else-self : goal.returns-else-self
 returns-else-self g c = (no_tally, none)
 
 pub returns : goal.returns
-returns g c = (c.step-answer.new.tally, of_request _ _ _ _ refl c.step-answer.ensures.works)
+returns g c = (c.perform-answer.new.tally, of_request _ _ _ _ refl c.perform-answer.ensures)
