@@ -11,7 +11,7 @@ import tempfile
 from pathlib import Path
 
 HERE = Path(__file__).resolve().parent
-SOURCE = HERE.parent / "bench" / "refusals.c"
+SOURCE = HERE / "refusals.c"
 COMPILER = shutil.which("cc") or shutil.which("gcc")
 # Seconds for one run of a test.
 LIMIT = 120

@@ -1,4 +1,4 @@
-"""Counts and times the calls of a bookie, of one caller and of several, beside plain Rust: bookie-bench callers."""
+"""Counts and times the calls of a bookie, of one caller and of several, beside plain Rust: ./dev bench callers."""
 
 import subprocess
 

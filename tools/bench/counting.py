@@ -1,4 +1,4 @@
-"""Runs the programs of bookie-bench: counts the instructions of stages by valgrind, times them, weighs what they hold."""
+"""Runs the programs of ./dev bench: counts the instructions of stages by valgrind, times them, weighs what they hold."""
 
 import os
 import re
@@ -41,7 +41,7 @@ HELD = 1_000_000
 
 
 def stop(why, status=1):
-    print(f"bookie-bench: {why}", file=sys.stderr)
+    print(f"dev bench: {why}", file=sys.stderr)
     sys.exit(status)
 
 

@@ -1,4 +1,4 @@
-"""Draws the tables of bookie-bench as curves: one SVG picture, and a page around it, without scripts."""
+"""Draws the tables of ./dev bench as curves: one SVG picture, and a page around it, without scripts."""
 
 import html
 import math
@@ -100,10 +100,10 @@ def rows_of(operations):
 def page(tables, orders, about):
     """Returns the page: the picture, then its figures."""
     parts = [
-        '<!DOCTYPE html><html lang="en"><meta charset="utf-8"><title>bookie-bench</title>',
+        '<!DOCTYPE html><html lang="en"><meta charset="utf-8"><title>./dev bench</title>',
         "<style>body{font:14px sans-serif;max-width:1000px;margin:2em auto}td,th{padding:1px 8px;text-align:right}",
         "td:nth-child(-n+3){text-align:left}</style>",
-        f"<h1>bookie-bench</h1><p>{html.escape(about)}</p>",
+        f"<h1>./dev bench</h1><p>{html.escape(about)}</p>",
         picture(tables, orders),
     ]
     for title, operations in tables:

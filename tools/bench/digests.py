@@ -1,4 +1,4 @@
-"""Times SHA-256: the kit's crate sha2, which the store uses, beside plain Rust and OpenSSL: bookie-bench digest."""
+"""Times SHA-256: the kit's crate sha2, which the store uses, beside plain Rust and OpenSSL: ./dev bench digest."""
 
 import shutil
 import subprocess
@@ -34,7 +34,7 @@ def least_time(program, folders, length, count):
         sums.add(total)
         times.append(nanoseconds / count)
     if len(sums) != 1:
-        raise SystemExit("bookie-bench: the digests differ from run to run")
+        raise SystemExit("dev bench: the digests differ from run to run")
     return min(times), sums.pop()
 
 
@@ -49,5 +49,5 @@ def measure(work, store):
     for length, count in PAYLOADS:
         found = {name: least_time(program, folders, length, count) for name, program in columns.items()}
         if len({total for _, total in found.values()}) != 1:
-            raise SystemExit("bookie-bench: the programs make different digests")
+            raise SystemExit("dev bench: the programs make different digests")
         folder.row(f"{length:,} bytes", *(it for time, _ in found.values() for it in (f"{time:,.0f}", f"{time / length:.2f}")))

@@ -1,4 +1,4 @@
-"""Measures a store over a folder, beside plain Rust, LevelDB, RocksDB and LMDB with the same entries: bookie-bench folder."""
+"""Measures a store over a folder, beside plain Rust, LevelDB, RocksDB and LMDB with the same entries: ./dev bench folder."""
 
 import collections
 import os
@@ -93,7 +93,7 @@ def run(program, *words):
         _, status, usage = os.wait4(process.pid, 0)
         process.returncode = os.waitstatus_to_exitcode(status)
     if process.returncode:
-        raise SystemExit(f"bookie-bench: {program[0]} {words[0]} ended with status {process.returncode}")
+        raise SystemExit(f"dev bench: {program[0]} {words[0]} ended with status {process.returncode}")
     stages = {}
     for line in told.splitlines():
         stage, count, nanoseconds = line.split()
@@ -132,7 +132,7 @@ def must_be_same(one, other):
     names = [[path.name for path in logs_of(folder)] for folder in (one, other)]
     same = names[0] == names[1] and all((one / it).read_bytes() == (other / it).read_bytes() for it in names[0])
     if not same:
-        raise SystemExit("bookie-bench: the two programs did not write the same logs")
+        raise SystemExit("dev bench: the two programs did not write the same logs")
 
 
 def fill_times(programs, folders, length, batch, publishes):

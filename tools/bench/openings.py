@@ -1,4 +1,4 @@
-"""Measures openings by hints and by scanning, beside plain Rust, LevelDB, RocksDB and LMDB: bookie-bench openings."""
+"""Measures openings by hints and by scanning, beside plain Rust, LevelDB, RocksDB and LMDB: ./dev bench openings."""
 
 import collections
 import contextlib
@@ -90,7 +90,7 @@ def write_hints(path):
 
 
 def must_be_hints(path):
-    """The hints are those that bench/hint_files.py makes of the logs."""
+    """The hints are those that tools/logs/hint_files.py makes of the logs."""
     for log in folder.logs_of(path):
         if log.with_suffix(".hint").read_bytes() != hint_files.hint_of(int(log.stem, 16), log.read_bytes()):
             stop(f"the hint of {log.name} is another one")

@@ -1,4 +1,4 @@
-"""The commands that bookie-faults lets fail, each on a folder of its own, and what must hold afterwards."""
+"""The commands that ./dev faults lets fail, each on a folder of its own, and what must hold afterwards."""
 
 import random
 import re

@@ -1,4 +1,4 @@
-"""Runs a program with one failing call of the system, and looks what that left: for bookie-faults."""
+"""Runs a program with one failing call of the system, and looks what that left: for ./dev faults."""
 
 import errno
 import os

@@ -1,4 +1,4 @@
-// Fails one call of a program on the files of a folder. ./bookie-faults compiles it and preloads it:
+// Fails one call of a program on the files of a folder. ./dev faults compiles it and preloads it:
 // the program calls the system by functions of the C library, which stand here in their place.
 //
 //   FAULT_FOLDER  the folder, an absolute path without links; a call on it or below it is traced

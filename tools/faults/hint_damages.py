@@ -1,4 +1,4 @@
-"""Damages of hints, and the logs whose hints are damaged: for bookie-faults --hints.
+"""Damages of hints, and the logs whose hints are damaged: for ./dev faults --hints.
 
 A damage makes bytes of the hint of a log, or a file of another kind in its place. Those named `forged: ..` have a checksum
 that fits what they list.

@@ -1,4 +1,4 @@
-"""Lets each command meet damaged hints: for bookie-faults --hints."""
+"""Lets each command meet damaged hints: for ./dev faults --hints."""
 
 import collections
 import random
@@ -82,7 +82,7 @@ class Folder:
             (self.good / f"{number:x}.log").write_bytes(strange_log(chance))
 
     def make_hints(self):
-        """The hints that the program makes. Returns why they are other ones than bench/hint_files.py makes."""
+        """The hints that the program makes. Returns why they are other ones than tools/logs/hint_files.py makes."""
         self.program.must(["hint", self.good])
         made = {path.name: path.read_bytes() for path in self.good.glob("*.hint")}
         wanted = {f"{log:x}.hint": hint for log, hint in self.logs.hints.items()}
@@ -131,7 +131,7 @@ class Folder:
         status, out = self.answers_to((("script", "--folder"), ()), steps)
         parts, lines = steps_in(steps), out.splitlines(keepends=True)
         if status != 0 or len(lines) != steps.count("\n"):
-            raise SystemExit(f"bookie-faults: a script without hints: status {status}, {out[-200:]}")
+            raise SystemExit(f"dev faults: a script without hints: status {status}, {out[-200:]}")
         at = 0
         for part in parts:
             self.script[part] = b"".join(lines[at : at + part.count("\n")])
@@ -185,7 +185,7 @@ class Program:
     def must(self, words, steps=""):
         status, out, told = self.call(words, steps)
         if status != 0 or b"fault" in out:
-            raise SystemExit(f"bookie-faults: {' '.join(map(str, words))}: status {status}, {told[-300:]} {out[-300:]}")
+            raise SystemExit(f"dev faults: {' '.join(map(str, words))}: status {status}, {told[-300:]} {out[-300:]}")
 
 
 class Round:
@@ -276,7 +276,7 @@ class Trials:
         """Makes at least so many damages."""
         for folder in self.folders:
             for name in folder.make_hints():
-                self.find(f"{name} is not as bench/hint_files.py makes it, or one of both is missing")
+                self.find(f"{name} is not as tools/logs/hint_files.py makes it, or one of both is missing")
         each = sum(len(folder.logs.hints) for folder in self.folders) / len(self.folders)
         with ThreadPoolExecutor(AT_ONCE) as pool:
             for made, found in pool.map(self.round, range(int(wanted / each) + 1)):

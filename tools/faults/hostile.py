@@ -1,4 +1,4 @@
-"""Lets each command meet directories that no bookie makes: for bookie-faults --hostile."""
+"""Lets each command meet directories that no bookie makes: for ./dev faults --hostile."""
 
 import hashlib
 import os

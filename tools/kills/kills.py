@@ -1,4 +1,4 @@
-"""What the kills of ./bookie-kills share: calls of the program, entries, what stands in a directory."""
+"""What the kills of ./dev kills share: calls of the program, entries, what stands in a directory."""
 
 import subprocess
 import sys
@@ -15,7 +15,7 @@ KILLED = tuple(zip(("fence", "delete") * 4, (1, 2, 4, 3, 6, 5, 13, 7)))
 
 
 def stop(why):
-    print(f"bookie-kills: {why}", file=sys.stderr)
+    print(f"dev kills: {why}", file=sys.stderr)
     sys.exit(2)
 
 

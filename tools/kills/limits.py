@@ -1,4 +1,4 @@
-"""What a program does at a limit of files, on a full disk, and without permission: for bookie-kills --limits."""
+"""What a program does at a limit of files, on a full disk, and without permission: for ./dev kills --limits."""
 
 import os
 import resource

@@ -1,4 +1,4 @@
-"""Reads a directory of entry logs as docs/format.md describes them, beside the program: for bookie-faults."""
+"""Reads a directory of entry logs as docs/format.md describes them, beside the program: for ./dev faults."""
 
 import os
 import re

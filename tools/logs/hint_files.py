@@ -1,4 +1,4 @@
-"""Writes and reads hints as crates/bk_hint/README.md describes them, beside the program: for bookie-faults --hints.
+"""Writes and reads hints as crates/bk_hint/README.md describes them, beside the program: for ./dev faults --hints.
 
 A log is its bytes. An entry is its ledger, its entry id, the position of its payload, and the bytes of its record.
 """

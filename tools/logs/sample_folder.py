@@ -1,7 +1,7 @@
 #!/usr/bin/env python3
 """Makes a small directory of entry logs, which docs/operating.md walks through.
 
-usage: bench/sample_folder.py DIR     DIR must not exist
+usage: tools/logs/sample_folder.py DIR     DIR must not exist
 
 Writes DIR/current with four logs, byte by byte as docs/format.md describes them, and DIR/live.txt with the ledgers that
 still exist, as the stock shell lists them. Three logs are sealed. Log 31 is not, and ends in half a record. Ledgers 1 and 4

@@ -1,5 +1,5 @@
 // Leaves out syncs of a program, reports what it has read, lets a call fail, and kills it at a call: for
-// bookie-power, which compiles it and preloads it in the guest.
+// ./dev power, which compiles it and preloads it in the guest.
 //
 //   POWER_LEAVE_OUT  the syncs that are left out, each between commas, as ,opening,folder,
 //                      opening   of a file that is open to read alone, as an opening and a roll have it

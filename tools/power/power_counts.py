@@ -1,4 +1,4 @@
-"""What bookie-power found, in images; and the images with a finding, which are kept."""
+"""What ./dev power found, in images; and the images with a finding, which are kept."""
 
 import collections
 import json

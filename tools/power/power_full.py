@@ -1,4 +1,4 @@
-"""What is done to a directory on a full disk in the guest of bookie-power, before room is made: reading, and opening."""
+"""What is done to a directory on a full disk in the guest of ./dev power, before room is made: reading, and opening."""
 
 from power_runs import FOLDER, Run, answers_of
 

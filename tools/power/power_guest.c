@@ -1,4 +1,4 @@
-// The first process of the guest of bookie-power, and the commands of its jobs by which it reports.
+// The first process of the guest of ./dev power, and the commands of its jobs by which it reports.
 //
 // As the first process it loads the modules of /modules/list and does one job after another. A job `look TYPE OPTIONS`
 // mounts the data disk and reports its directory of logs; it starts no other process, since each costs tens of
@@ -32,7 +32,7 @@ enum { SECTOR = 512, BLOCK = 4096, DATA_AT = 1 << 20, JOB_AT = 16 << 20, TEXT_AT
 static const char LOGS[] = "/mnt/logs";
 
 void stop(const char *why) {
-    fprintf(stderr, "bookie-power: %s: %s\n", why, strerror(errno));
+    fprintf(stderr, "dev power: %s: %s\n", why, strerror(errno));
     exit(99);
 }
 

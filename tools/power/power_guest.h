@@ -1,4 +1,4 @@
-// What the parts of the guest's first process share, for bookie-power: power_guest.c and power_client.c.
+// What the parts of the guest's first process share, for ./dev power: power_guest.c and power_client.c.
 #include <stddef.h>
 
 // Bytes of a message.

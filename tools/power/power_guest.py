@@ -1,4 +1,4 @@
-"""A virtual machine that runs jobs on a recorded disk: for bookie-power."""
+"""A virtual machine that runs jobs on a recorded disk: for ./dev power."""
 
 import ctypes
 import glob

@@ -1,4 +1,4 @@
-"""What a power loss leaves on a disk: images made of recorded writes and flushes, for bookie-power."""
+"""What a power loss leaves on a disk: images made of recorded writes and flushes, for ./dev power."""
 
 import hashlib
 import os

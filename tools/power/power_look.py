@@ -1,4 +1,4 @@
-"""Reads a directory that a power loss left, by the steps that docs/operating.md gives: for bookie-power."""
+"""Reads a directory that a power loss left, by the steps that docs/operating.md gives: for ./dev power."""
 
 import hashlib
 import re

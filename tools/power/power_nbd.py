@@ -1,4 +1,4 @@
-"""A disk over NBD that records each request, with an export for messages and one for jobs: for bookie-power."""
+"""A disk over NBD that records each request, with an export for messages and one for jobs: for ./dev power."""
 
 import dataclasses
 import queue

@@ -1,4 +1,4 @@
-"""What is promised at each event of a recording of bookie-power: entries, deletions, fences, attributes, removals."""
+"""What is promised at each event of a recording of ./dev power: entries, deletions, fences, attributes, removals."""
 
 import io
 import tarfile

@@ -1,4 +1,4 @@
-"""The runs of the shell in the guest of bookie-power: how one is begun, what it promises, and what is wrong with it."""
+"""The runs of the shell in the guest of ./dev power: how one is begun, what it promises, and what is wrong with it."""
 
 import subprocess
 import tempfile

@@ -1,4 +1,4 @@
-"""Sessions of the server in the guest of bookie-power: their requests, and what the replies promise.
+"""Sessions of the server in the guest of ./dev power: their requests, and what the replies promise.
 
 The requests go in groups. The guest's client (power_client.c) sends a group when the one before is answered, and reports the
 replies. So a promise begins with the message of its reply, and what the next group asks for may be done from then on.

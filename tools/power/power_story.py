@@ -1,4 +1,4 @@
-"""What the guest of bookie-power does to a directory of logs: runs of the programs, one after another."""
+"""What the guest of ./dev power does to a directory of logs: runs of the programs, one after another."""
 
 import power_serve
 from power_promise import coded, deleted

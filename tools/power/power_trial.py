@@ -1,4 +1,4 @@
-"""The cuts of bookie-power: runs in the guest, images of their recordings, and what is found in them."""
+"""The cuts of ./dev power: runs in the guest, images of their recordings, and what is found in them."""
 
 import random
 import subprocess
@@ -219,7 +219,7 @@ def run(asked, room):
             Trial(asked, room, name, counts).all()
         status = 0
     except Stopped as why:
-        print(f"bookie-power: {why}", file=sys.stderr)
+        print(f"dev power: {why}", file=sys.stderr)
     finally:
         found = counts.report()
     return status or found

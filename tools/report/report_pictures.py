@@ -1,12 +1,12 @@
 #!/usr/bin/env python3
 """Makes pictures of sample reports in a browser, to be looked at.
 
-usage: bench/report_pictures.py DIR [COUNT..]     COUNT: numbers of logs, else 1 30 3000
+usage: tools/report/report_pictures.py DIR [COUNT..]     COUNT: numbers of logs, else 1 30 3000
 
 Writes DIR/COUNT.html, the page of a made-up directory, which the toolchain makes from the sources without a proof; then
 DIR/COUNT-light.png and DIR/COUNT-dark.png, and DIR/COUNT.pdf as it is printed. The browser is $BROWSER, else chromium.
 
-       bench/report_pictures.py --page FILE      writes the picture of the operator's page, docs/report.png
+       tools/report/report_pictures.py --page FILE      writes the picture of the operator's page, docs/report.png
 """
 
 import os
@@ -15,7 +15,7 @@ import sys
 import tempfile
 from pathlib import Path
 
-TOP = Path(__file__).resolve().parent.parent
+TOP = Path(__file__).resolve().parent.parent.parent
 CRATE = TOP / "crates" / "bk_report_sample"
 PIECE = 1_000_000
 WIDTH = 1200

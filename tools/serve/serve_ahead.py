@@ -1,4 +1,4 @@
-"""Sends bk_serve sessions of requests by chance, all sent ahead, and compares each reply with a model: for bookie-faults --serve --ahead.
+"""Sends bk_serve sessions of requests by chance, all sent ahead, and compares each reply with a model: for ./dev faults --serve --ahead.
 
 Reads, pages and look-ups stand between adds, deletions, fences, flushes, seals and compactions of few ledgers, and now and then
 many reads follow one another. The model (bindings/model.py) carries the same requests out in their order. Every request has to
@@ -14,9 +14,9 @@ import re
 import subprocess
 import sys
 
-from serve_faults import bookie
+from serve_faults import TOP, bookie
 
-sys.path.insert(0, os.path.join(os.path.dirname(os.path.dirname(os.path.abspath(__file__))), "bindings"))
+sys.path.insert(0, os.path.join(TOP, "bindings"))
 
 import model  # noqa: E402
 

@@ -1,4 +1,4 @@
-"""Fails each call of the system in turn while bk_serve answers a session: for bookie-faults --serve.
+"""Fails each call of the system in turn while bk_serve answers a session: for ./dev faults --serve.
 
 The session publishes entries, deletes and fences ledgers and stores master keys, and goes on after each refusal. Later
 sessions, on the files as they are and on what a power loss would leave, have to find what was answered: entries that were
@@ -17,7 +17,7 @@ import sys
 
 import fault_runs
 
-TOP = os.path.dirname(os.path.dirname(os.path.abspath(__file__)))
+TOP = os.path.dirname(os.path.dirname(os.path.dirname(os.path.abspath(__file__))))
 sys.path.insert(0, os.path.join(TOP, "bindings", "python"))
 
 import bookie  # noqa: E402

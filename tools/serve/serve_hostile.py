@@ -1,4 +1,4 @@
-"""Sends bk_serve sessions that end by a damaged or hostile frame: for bookie-faults --serve --hostile.
+"""Sends bk_serve sessions that end by a damaged or hostile frame: for ./dev faults --serve --hostile.
 
 Each session begins with requests that are answered. Then a frame is cut, too long, too short, of an unknown call, of wrong
 fields, of an id that does not rise, a second hello, or bytes by chance. The server has to answer what came before, to end by the

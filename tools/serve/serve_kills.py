@@ -1,4 +1,4 @@
-"""Kills bk_serve at random moments of a session: for bookie-kills --serve.
+"""Kills bk_serve at random moments of a session: for ./dev kills --serve.
 
 A client sends adds ahead, flushes, deletes, fences and stores master keys, until the server is killed. The next session has to
 find what was answered; then it goes on in the same directory. Every other session compacts in the background, in every third

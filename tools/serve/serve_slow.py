@@ -1,6 +1,6 @@
-"""Measures a bookie whose reads are slow while entries are added: python3 bench/serve_slow.py SERVER [MICROSECONDS].
+"""Measures a bookie whose reads are slow while entries are added: python3 tools/serve/serve_slow.py SERVER [MICROSECONDS].
 
-Each read of a file waits so long [20,000], as on a slow device (FAULT_SLOW of bench/faults.c). One thread sends reads of
+Each read of a file waits so long [20,000], as on a slow device (FAULT_SLOW of tools/faults/faults.c). One thread sends reads of
 published entries, 40 ahead, and another adds, 150 ahead, both of 100 bytes, for four seconds. Prints how many replies each got,
 for a server with 1, 4 and 8 readers. It needs gcc.
 """
@@ -14,7 +14,7 @@ import threading
 import time
 from pathlib import Path
 
-TOP = Path(os.path.realpath(__file__)).parent.parent
+TOP = Path(os.path.realpath(__file__)).parent.parent.parent
 sys.dont_write_bytecode = True
 sys.path.insert(0, str(TOP / "bindings" / "python"))
 
@@ -62,7 +62,7 @@ def measure(server, library, folder, readers, wait):
 def main(server, wait="20000"):
     with tempfile.TemporaryDirectory(prefix="serve-slow-") as room:
         library = Path(room) / "faults.so"
-        subprocess.run(["gcc", "-O2", "-shared", "-fPIC", "-pthread", "-o", library, TOP / "bench" / "faults.c"], check=True)
+        subprocess.run(["gcc", "-O2", "-shared", "-fPIC", "-pthread", "-o", library, TOP / "tools" / "faults" / "faults.c"], check=True)
         for readers in READERS:
             folder = Path(room).resolve() / f"of{readers}"
             folder.mkdir()
