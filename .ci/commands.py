@@ -1,9 +1,11 @@
-"""The commands of bookie with their operands, options and help, read from the sources that make its help.
+"""The commands of bookie with their operands, options and help, read from the sources that make its
+help.
 
-The help of a command on a directory is its row in crates/bk_cli/src/rows, with the operands and options
-of crates/bk_cli/src/words.rt. That of `script` and of `load`, and of the program itself, is in the
-constants of help.rt and load/call.rt, in the usages of `script_error` and `bad_value`, and where each
-option is made. `serve`, `daemon` and `simulate` are programs of their own with a help text each.
+The help of a command on a directory is its row in crates/bk_cli/src/rows, with the operands and
+options of crates/bk_cli/src/words.rt. That of `script` and of `load`, and of the program itself, is
+in the constants of help.rt and load/call.rt, in the usages of `script_error` and `bad_value`, and
+where each option is made. `serve`, `daemon` and `simulate` are programs of their own with a help
+text each.
 """
 
 import re
@@ -42,8 +44,8 @@ class Option(NamedTuple):
 
 
 class Command(NamedTuple):
-    """A command: its summary, how it is called, its options, its help, and whether a word of it is a
-    directory."""
+    """A command: its summary, how it is called, its options, its help, and whether a word of it is
+    a directory."""
 
     name: str
     summary: str
@@ -58,8 +60,8 @@ def read(path):
 
 
 def spoken(literal):
-    """The text of a string literal: a backslash at a line's end joins the next line, without what it
-    is moved in by."""
+    """The text of a string literal: a backslash at a line's end joins the next line, without what
+    it is moved in by."""
     joined = re.sub(r"\\\n\s*", "", literal)
     return re.sub(r"\\(.)", lambda found: ESCAPES[found[1]], joined)
 
@@ -140,7 +142,9 @@ def number_options(source, value):
 def of_store():
     """`script` and `load`."""
     texts, load = constants("help.rt") | constants(LOAD), LOAD.read_text()
-    numbers = re.findall(rf'NumberOption \{{\s*name: {TEXT},.*?help: {TEXT},', read("script.rt"), re.S)
+    numbers = re.findall(
+        rf"NumberOption \{{\s*name: {TEXT},.*?help: {TEXT},", read("script.rt"), re.S
+    )
     options = {
         "script": [Option(name, "NUMBER", spoken(told)) for name, told in numbers]
         + made_options(read("folder_option.rt")),
@@ -184,13 +188,20 @@ def of_simulate():
     source = (SIMULATE / "command.rt").read_text()
     numbers = number_options((SIMULATE / "numbers.rt").read_text(), "N")
     texts = rf"(?:list|text)\(\s*alloc,\s*{TEXT},\s*{TEXT},\s*{TEXT},?\s*\)"
-    made, options = rf"(\w+)\.arg\(alloc\)|{texts}|(Arg::new\(alloc, \"[a-z]+\"\).*?\.help\(.*?\))", []
+    made, options = (
+        rf"(\w+)\.arg\(alloc\)|{texts}|(Arg::new\(alloc, \"[a-z]+\"\).*?\.help\(.*?\))",
+        [],
+    )
     for name in ("with_load", "with_upkeep", "with_run"):
         for number, *listed, code in re.findall(made, function(source, name), re.S):
             if number:
                 options.append(numbers[number])
             else:
-                options += made_options(code) if code else [Option(listed[0], listed[1], spoken(listed[2]))]
+                options += (
+                    made_options(code)
+                    if code
+                    else [Option(listed[0], listed[1], spoken(listed[2]))]
+                )
     told = spoken(re.search(rf"const HELP: &str = {TEXT};", source)[1])
     return Command("simulate", OWN["simulate"][1], "simulate [OPTIONS]", options, told, False)
 
@@ -200,7 +211,11 @@ def commands():
     reading = rows("rows/listing.rt") + rows("rows/reading.rt") + rows("rows/counting.rt")
     writing = rows("rows/copying.rt") + rows("rows/writing.rt")
     daemon = re.search(r"^bookie (daemon .*)$", DAEMON.read_text(), re.M)[1]
-    own = [of_text("serve", SERVE, "serve DIR [OPTIONS]"), of_text("daemon", DAEMON, daemon), of_simulate()]
+    own = [
+        of_text("serve", SERVE, "serve DIR [OPTIONS]"),
+        of_text("daemon", DAEMON, daemon),
+        of_simulate(),
+    ]
     return [*map(of_row, reading + writing), *of_store(), *own]
 
 
@@ -211,7 +226,9 @@ def listing():
     inspect, write = [spoken(head) for head in heads]
     groups = (("listing", "reading", "counting"), ("copying", "writing"))
     reading, writing = ([row for it in group for row in rows(f"rows/{it}.rt")] for group in groups)
-    lines = lambda rows: "".join(listed(f"{it['name']} {operands(it)}", it["summary"]) for it in rows)
+    lines = lambda rows: "".join(
+        listed(f"{it['name']} {operands(it)}", it["summary"]) for it in rows
+    )
     own = OWN_HEAD + "".join(listed(*it) for it in OWN.values())
     others = texts["OTHERS"].replace("\nGeneral:\n", f"\n{own}\nGeneral:\n")
     return texts["CALLED"] + inspect + lines(reading) + write + lines(writing) + others

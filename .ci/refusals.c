@@ -1,8 +1,9 @@
-// Refuses one allocation of a program. .ci/refusals.py compiles it and preloads it: the program takes its memory by
-// functions of the C library, which stand here in their place.
+// Refuses one allocation of a program. .ci/refusals.py compiles it and preloads it: the program
+// takes its memory by functions of the C library, which stand here in their place.
 //
 //   REFUSED        which allocation is refused, from 1; 0: none
-//   REFUSED_COUNT  a file that gets the number of allocations that the program asked for, at its end
+//   REFUSED_COUNT  a file that gets the number of allocations that the program asked for, at its
+//                  end
 #define _GNU_SOURCE
 #include <errno.h>
 #include <fcntl.h>

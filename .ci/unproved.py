@@ -16,7 +16,9 @@ HINTS = b"\0--start\0no function\0"
 def children_of(number):
     """Returns the numbers of the child processes of a process."""
     try:
-        return [int(it) for it in Path(f"/proc/{number}/task/{number}/children").read_text().split()]
+        return [
+            int(it) for it in Path(f"/proc/{number}/task/{number}/children").read_text().split()
+        ]
     except OSError:
         return []
 

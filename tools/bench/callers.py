@@ -1,4 +1,5 @@
-"""Counts and times the calls of a bookie, of one caller and of several, beside plain Rust: ./dev bench callers."""
+"""Counts and times the calls of a bookie, of one caller and of several, beside plain Rust: ./dev
+bench callers."""
 
 import subprocess
 
@@ -27,7 +28,9 @@ WAYS = {
 
 def timed(program, words, expected):
     """Runs a program whose works make `expected` calls each. Returns their nanoseconds."""
-    ran = subprocess.run([program, *map(str, words)], text=True, stdout=subprocess.PIPE, stderr=subprocess.PIPE)
+    ran = subprocess.run(
+        [program, *map(str, words)], text=True, stdout=subprocess.PIPE, stderr=subprocess.PIPE
+    )
     counts = dict(line.split() for line in ran.stdout.splitlines())
     if ran.returncode or set(counts.values()) != {str(expected)}:
         stop(f"{program}: not every call was answered as it should be: {ran.stdout}{ran.stderr}")
@@ -49,7 +52,9 @@ def count_pass(work, program, number=20_000):
     need("valgrind", "counts instructions")
     kinds = ("store_", "pass_", "held_", "tell")
     words = ["counted", number]
-    told, calls = Bench(work, program, None).counted_calls(program, "bk_bench_threads::counted::", words, kinds)
+    told, calls = Bench(work, program, None).counted_calls(
+        program, "bk_bench_threads::counted::", words, kinds
+    )
     if {line.split()[1] for line in told} != {str(number)}:
         stop(f"not every call was answered as it should be: {told}")
     counts = dict(calls)
@@ -64,11 +69,17 @@ def count_pass(work, program, number=20_000):
 def time_calls(programs, each=20_000):
     """Times concurrent callers, each kind of call by all of them at once."""
     best = {callers: rates(programs, "calls", callers, each) for callers in CALLERS}
-    print(f"\n{each:,} calls by each caller: thousands a second of all callers, best of {RUNS} runs")
+    print(
+        f"\n{each:,} calls by each caller: thousands a second of all callers, best of {RUNS} runs"
+    )
     for work, title in WORKS.items():
         row(title, "store", "to one", "plain Rust", "to one", "ratio")
         for callers, (ours, plain) in best.items():
-            shown = [it for found, one in zip((ours, plain), best[1]) for it in to_first(found[work], one[work])]
+            shown = [
+                it
+                for found, one in zip((ours, plain), best[1])
+                for it in to_first(found[work], one[work])
+            ]
             row(f"{callers} callers", *shown, f"{ours[work] / plain[work]:.2f}")
 
 
@@ -78,9 +89,16 @@ def to_first(rate, first):
 
 def time_ways(plain, each=20_000):
     """Times adds in plain Rust, with more than one entry a hold and without a lock."""
-    print(f"\nadds in plain Rust, {each:,} by each caller: thousands a second of all callers, best of {RUNS} runs")
+    print(
+        f"\nadds in plain Rust, {each:,} by each caller: thousands a second of all callers, best "
+        f"of {RUNS} runs"
+    )
     row("", *(f"{callers} callers" for callers in CALLERS))
-    found = [rates([plain], part, callers, each)[0] for part in ("calls", "grouped") for callers in CALLERS]
+    found = [
+        rates([plain], part, callers, each)[0]
+        for part in ("calls", "grouped")
+        for callers in CALLERS
+    ]
     for way, title in WAYS.items():
         row(title, *(f"{it[way] / 1e3:,.0f}" for it in found if way in it))
 
@@ -88,12 +106,20 @@ def time_ways(plain, each=20_000):
 def time_reads(programs, each=200_000):
     """Times concurrent readers: with leases that are held, and with a new lease for each read."""
     best = {readers: rates(programs, "reads", readers, each) for readers in READERS}
-    print(f"\n{each:,} reads from a log by each reader: thousands a second of all readers, best of {RUNS} runs")
+    print(
+        f"\n{each:,} reads from a log by each reader: thousands a second of all readers, best of "
+        f"{RUNS} runs"
+    )
     for work, title in READS.items():
         row(title, "store", "plain Rust", "ratio")
         for readers, found in best.items():
             ours, plain = (it[work] for it in found)
-            row(f"{readers} readers", f"{ours / 1e3:,.0f}", f"{plain / 1e3:,.0f}", f"{ours / plain:.2f}")
+            row(
+                f"{readers} readers",
+                f"{ours / 1e3:,.0f}",
+                f"{plain / 1e3:,.0f}",
+                f"{ours / plain:.2f}",
+            )
 
 
 def measure(work, program, plain):

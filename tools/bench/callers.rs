@@ -1,11 +1,13 @@
-//! The work of the program bk_bench_threads in plain Rust: maps behind one `Mutex`, and nothing proved.
+//! The work of the program bk_bench_threads in plain Rust: maps behind one `Mutex`, and nothing
+//! proved.
 //!
-//! `calls C N`: so many threads, each of which adds N entries of 100 bytes to a ledger of its own; when all have, each takes
-//! its own. A payload is copied, and its digest made, before the lock is taken, as a bookie does it.
-//! `grouped C N`: the adds alone, in other ways: the lock is tried for a while before it is waited for, as a bookie does it;
-//! then with 4 and with 16 entries that are added while it is held once; then with a store for each thread and no lock.
-//! `reads C N`: so many threads, each of which reads entries of a log N times by what it was given before; then N times by
-//! what it asks the lock for each time.
+//! `calls C N`: so many threads, each of which adds N entries of 100 bytes to a ledger of its own;
+//! when all have, each takes its own. A payload is copied, and its digest made, before the lock is
+//! taken, as a bookie does it. `grouped C N`: the adds alone, in other ways: the lock is tried for
+//! a while before it is waited for, as a bookie does it; then with 4 and with 16 entries that are
+//! added while it is held once; then with a store for each thread and no lock. `reads C N`: so many
+//! threads, each of which reads entries of a log N times by what it was given before; then N times
+//! by what it asks the lock for each time.
 
 mod digest;
 
@@ -130,7 +132,8 @@ fn payload(ledger: u64, entry: u64) -> [u8; 100] {
     payload
 }
 
-/// Lets a thread do each of these jobs, and tells how often the jobs did their work, and how long they took together.
+/// Lets a thread do each of these jobs, and tells how often the jobs did their work, and how long
+/// they took together.
 fn at_once<J: Send>(name: &str, jobs: Vec<J>, work: impl Fn(J) -> u64 + Sync) {
     let start = Instant::now();
     let work = &work;

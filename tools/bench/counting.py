@@ -1,4 +1,5 @@
-"""Runs the programs of ./dev bench: counts the instructions of stages by valgrind, times them, weighs what they hold."""
+"""Runs the programs of ./dev bench: counts the instructions of stages by valgrind, times them,
+weighs what they hold."""
 
 import os
 import re
@@ -10,7 +11,11 @@ from pathlib import Path
 
 HERE = Path(__file__).resolve().parent
 ORDERS = {"turn": "100 ledgers in turn", "rising": "keys rise"}
-DIGEST, ADD, FLUSH = "SHA-256 of a payload alone", "add, its digest taken off", "flush: write and publish"
+DIGEST, ADD, FLUSH = (
+    "SHA-256 of a payload alone",
+    "add, its digest taken off",
+    "flush: write and publish",
+)
 READ, COMPACT = "read from a log: take, fetch, release", "compact, a moved key"
 # Each line of a table: its title, the stages that are added, and those that are subtracted.
 LINES = [
@@ -88,10 +93,13 @@ def calls_of(dumps, prefix):
 
 
 def figures_of(calls, numbers):
-    """Returns the figures of each line by its title: the store's, None if its program is missing, and the plain one's."""
+    """Returns the figures of each line by its title: the store's, None if its program is missing,
+    and the plain one's."""
 
     def each(found, plus, minus):
-        total = sum(it for stage, it in found if stage in plus) - sum(it for stage, it in found if stage in minus)
+        total = sum(it for stage, it in found if stage in plus) - sum(
+            it for stage, it in found if stage in minus
+        )
         return total / numbers[plus[0]]
 
     found = {title: [it and each(it, plus, minus) for it in calls] for title, plus, minus in LINES}
@@ -147,8 +155,13 @@ class Bench:
             old.unlink()
         told = output_of(
             [
-                "valgrind", "--tool=callgrind", f"--callgrind-out-file={self.work}/counted.%n", "--combine-dumps=no",
-                *(f"--dump-before={prefix}{kind}*" for kind in kinds), program, *map(str, words),
+                "valgrind",
+                "--tool=callgrind",
+                f"--callgrind-out-file={self.work}/counted.%n",
+                "--combine-dumps=no",
+                *(f"--dump-before={prefix}{kind}*" for kind in kinds),
+                program,
+                *map(str, words),
             ],
             stderr=subprocess.DEVNULL,
         )
@@ -193,7 +206,8 @@ class Bench:
         return lines, [it and list(it.items()) for it in least]
 
     def stages(self, number, order, runs=None):
-        """Returns the figures of each line for so many entries: instructions, or nanoseconds if runs are given."""
+        """Returns the figures of each line for so many entries: instructions, or nanoseconds if
+        runs are given."""
         words = ["entries", number, order]
         told, calls = self.clocked(words, runs) if runs else self.counted(words)
         numbers = {line.split()[0]: int(line.split()[1]) for line in told}
@@ -217,7 +231,10 @@ class Bench:
         lengths = sorted({length for group in TRAILS.values() for length in group})
         told, calls = self.counted(["trail", *lengths])
         numbers = [int(line.split()[1]) for line in told]
-        print("\nthe longest single add, its digest among it, beside a trail of so many marks: instructions")
+        print(
+            "\nthe longest single add, its digest among it, beside a trail of so many marks: "
+            "instructions"
+        )
         row("", "store", "plain Rust")
         for name, group in TRAILS.items():
             row(name, *(self.longest(numbers, found, group) for found in calls))
@@ -227,7 +244,9 @@ class Bench:
         if found is None:
             return "-"
         near = [
-            count for number, (_, count) in zip(numbers, found) if any(abs(number - length) <= 2 for length in group)
+            count
+            for number, (_, count) in zip(numbers, found)
+            if any(abs(number - length) <= 2 for length in group)
         ]
         return f"{max(near):,}"
 
@@ -242,4 +261,10 @@ class Bench:
     def print_weight(self, title, what, beside, order):
         most = self.peaks(what, str(HELD), order)
         least = self.peaks(beside, str(HELD), order)
-        row(title, *("-" if one is None else f"{(one - other) / HELD:.1f}" for one, other in zip(most, least)))
+        row(
+            title,
+            *(
+                "-" if one is None else f"{(one - other) / HELD:.1f}"
+                for one, other in zip(most, least)
+            ),
+        )

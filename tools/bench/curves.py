@@ -1,4 +1,5 @@
-"""Draws the tables of ./dev bench as curves: one SVG picture, and a page around it, without scripts."""
+"""Draws the tables of ./dev bench as curves: one SVG picture, and a page around it, without
+scripts."""
 
 import html
 import math
@@ -23,7 +24,8 @@ def named(number):
 
 
 class Panel:
-    """One operation: its curves over the numbers of entries, whose axis is logarithmic; the other begins at zero."""
+    """One operation: its curves over the numbers of entries, whose axis is logarithmic; the other
+    begins at zero."""
 
     def __init__(self, title, curves, numbers):
         self.title, self.curves = title, curves
@@ -31,7 +33,9 @@ class Panel:
         self.most = whole(max(value for curve in curves.values() for value in curve.values()))
 
     def x(self, number):
-        return LEFT + (math.log10(number) - self.first) / (self.last - self.first) * (WIDTH - LEFT - RIGHT)
+        return LEFT + (math.log10(number) - self.first) / (self.last - self.first) * (
+            WIDTH - LEFT - RIGHT
+        )
 
     def y(self, value):
         return HEIGHT - BOTTOM - value / self.most * (HEIGHT - TOP - BOTTOM)
@@ -53,7 +57,10 @@ class Panel:
         yield f'<text x="{LEFT}" y="16" font-weight="bold">{html.escape(self.title)}</text>'
         yield from self.axes()
         for (program, order), curve in self.curves.items():
-            points = " ".join(f"{self.x(number):.1f},{self.y(value):.1f}" for number, value in sorted(curve.items()))
+            points = " ".join(
+                f"{self.x(number):.1f},{self.y(value):.1f}"
+                for number, value in sorted(curve.items())
+            )
             look = f'fill="none" stroke="{COLORS[program]}" stroke-width="1.8" stroke-dasharray="{DASHES[order]}"'
             yield f'<polyline points="{points}" {look}/>'
             for number, value in curve.items():
@@ -73,35 +80,61 @@ def legend(orders):
 
 
 def picture(tables, orders):
-    """Returns the picture. A table has a title and, for each operation, its curves by program and order of keys."""
+    """Returns the picture. A table has a title and, for each operation, its curves by program and
+    order of keys."""
     parts, top = [f'<g transform="translate({LEFT} 10)">', *legend(orders), "</g>"], 40
     for title, operations in tables:
-        parts.append(f'<text x="{LEFT}" y="{top + 14}" font-size="14" font-weight="bold">{html.escape(title)}</text>')
+        parts.append(
+            f'<text x="{LEFT}" y="{top + 14}" font-size="14" font-weight="bold">{html.escape(title)}</text>'
+        )
         top += 22
         for number, (name, curves) in enumerate(operations.items()):
             at = (number % COLUMNS * WIDTH, top + number // COLUMNS * HEIGHT)
             entries = [it for curve in curves.values() for it in curve]
-            parts += [f'<g transform="translate({at[0]} {at[1]})">', *Panel(name, curves, entries).draw(), "</g>"]
+            parts += [
+                f'<g transform="translate({at[0]} {at[1]})">',
+                *Panel(name, curves, entries).draw(),
+                "</g>",
+            ]
         top += math.ceil(len(operations) / COLUMNS) * HEIGHT + 16
     size = f'width="{COLUMNS * WIDTH}" height="{top}" viewBox="0 0 {COLUMNS * WIDTH} {top}"'
     head = f'<svg xmlns="http://www.w3.org/2000/svg" {size} font-family="sans-serif" font-size="11" fill="#222">'
-    return "\n".join([head, f'<rect width="{COLUMNS * WIDTH}" height="{top}" fill="#fff"/>', *parts, "</svg>"]) + "\n"
+    return (
+        "\n".join(
+            [
+                head,
+                f'<rect width="{COLUMNS * WIDTH}" height="{top}" fill="#fff"/>',
+                *parts,
+                "</svg>",
+            ]
+        )
+        + "\n"
+    )
 
 
 def rows_of(operations):
-    """Yields the rows of a table: an operation, a program and an order, then a figure for each number of entries."""
-    numbers = sorted({it for curves in operations.values() for curve in curves.values() for it in curve})
+    """Yields the rows of a table: an operation, a program and an order, then a figure for each
+    number of entries."""
+    numbers = sorted(
+        {it for curves in operations.values() for curve in curves.values() for it in curve}
+    )
     yield ["", "", "", *(named(it) for it in numbers)]
     for name, curves in operations.items():
         for (program, order), curve in curves.items():
-            yield [name, program, order, *(f"{curve[it]:,.0f}" if it in curve else "" for it in numbers)]
+            yield [
+                name,
+                program,
+                order,
+                *(f"{curve[it]:,.0f}" if it in curve else "" for it in numbers),
+            ]
 
 
 def page(tables, orders, about):
     """Returns the page: the picture, then its figures."""
     parts = [
         '<!DOCTYPE html><html lang="en"><meta charset="utf-8"><title>./dev bench</title>',
-        "<style>body{font:14px sans-serif;max-width:1000px;margin:2em auto}td,th{padding:1px 8px;text-align:right}",
+        "<style>body{font:14px sans-serif;max-width:1000px;margin:2em auto}td,th{padding:1px "
+        "8px;text-align:right}",
         "td:nth-child(-n+3){text-align:left}</style>",
         f"<h1>./dev bench</h1><p>{html.escape(about)}</p>",
         picture(tables, orders),

@@ -1,6 +1,6 @@
-// SHA-256 of the system library OpenSSL: words LENGTH COUNT. Digests COUNT payloads of LENGTH bytes, each the ids of an
-// entry and then zeros, and prints a line as `bk_bench folder fill` does: `digest`, the sum of the digests' first bytes,
-// and the nanoseconds.
+// SHA-256 of the system library OpenSSL: words LENGTH COUNT. Digests COUNT payloads of LENGTH
+// bytes, each the ids of an entry and then zeros, and prints a line as `bk_bench folder fill` does:
+// `digest`, the sum of the digests' first bytes, and the nanoseconds.
 
 #include <openssl/evp.h>
 

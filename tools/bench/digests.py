@@ -1,4 +1,5 @@
-"""Times SHA-256: the kit's crate sha2, which the store uses, beside plain Rust and OpenSSL: ./dev bench digest."""
+"""Times SHA-256: the kit's crate sha2, which the store uses, beside plain Rust and OpenSSL: ./dev
+bench digest."""
 
 import shutil
 import subprocess
@@ -13,7 +14,8 @@ RUNS = 100
 
 
 def compile_openssl(work):
-    """Compiles the program of the system library. Returns None, and says so, if the system lacks it."""
+    """Compiles the program of the system library. Returns None, and says so, if the system lacks
+    it."""
     program = work / "with-openssl"
     words = ["cc", "-O2", "-o", program, HERE / "digest_openssl.c", "-lcrypto"]
     if not shutil.which("cc") or subprocess.run(words, capture_output=True).returncode:
@@ -42,12 +44,21 @@ def measure(work, store):
     """All rows. `store` is the built program of bk_bench, or None."""
     programs = folder.Programs(work, store, others=False)
     folders = folder.Folders(work)
-    columns = {"sha2": programs.store, "plain Rust": programs.plain, "OpenSSL": compile_openssl(work)}
+    columns = {
+        "sha2": programs.store,
+        "plain Rust": programs.plain,
+        "OpenSSL": compile_openssl(work),
+    }
     columns = {name: program for name, program in columns.items() if program}
     print(f"\nSHA-256 of a payload: nanoseconds, and nanoseconds a byte, least of {RUNS} runs")
     folder.row("", *(it for name in columns for it in (name, "a byte")))
     for length, count in PAYLOADS:
-        found = {name: least_time(program, folders, length, count) for name, program in columns.items()}
+        found = {
+            name: least_time(program, folders, length, count) for name, program in columns.items()
+        }
         if len({total for _, total in found.values()}) != 1:
             raise SystemExit("dev bench: the programs make different digests")
-        folder.row(f"{length:,} bytes", *(it for time, _ in found.values() for it in (f"{time:,.0f}", f"{time / length:.2f}")))
+        folder.row(
+            f"{length:,} bytes",
+            *(it for time, _ in found.values() for it in (f"{time:,.0f}", f"{time / length:.2f}")),
+        )

@@ -1,4 +1,5 @@
-"""Measures a store over a folder, beside plain Rust, LevelDB, RocksDB and LMDB with the same entries: ./dev bench folder."""
+"""Measures a store over a folder, beside plain Rust, LevelDB, RocksDB and LMDB with the same
+entries: ./dev bench folder."""
 
 import collections
 import os
@@ -11,7 +12,8 @@ from pathlib import Path
 HERE = Path(__file__).resolve().parent
 # The bytes of an entry, the entries of a flush, how many flushes.
 FILLS = [(100, 20_000, 10), (10_240, 2_000, 10)]
-# The folder that is opened: the bytes of an entry, the entries of a flush, how many flushes, the most bytes of a log.
+# The folder that is opened: the bytes of an entry, the entries of a flush, how many flushes, the
+# most bytes of a log.
 LARGE = (10_240, 2_000, 48, 100_000_000)
 # The folder of many keys.
 KEYS = (100, 20_000, 50, 1_073_741_824)
@@ -38,31 +40,44 @@ def ratio(ours, beside):
 
 
 class Programs:
-    """The store's program, which may be None, the plain one, and those of the other stores that the system has."""
+    """The store's program, which may be None, the plain one, and those of the other stores that the
+    system has."""
 
     def __init__(self, work, store, others=True):
         self.work = work
         self.store = [store, "folder"] if store else None
         self.plain = [work / "in-plain"]
-        subprocess.run(["rustc", "--edition", "2021", "-O", "-o", self.plain[0], HERE / "folder.rs"], check=True)
-        compiled = {name: self.compile_other(name, *it) for name, it in OTHERS.items()} if others else {}
+        subprocess.run(
+            ["rustc", "--edition", "2021", "-O", "-o", self.plain[0], HERE / "folder.rs"],
+            check=True,
+        )
+        compiled = (
+            {name: self.compile_other(name, *it) for name, it in OTHERS.items()} if others else {}
+        )
         self.others = {name: program for name, program in compiled.items() if program}
 
     def compile_other(self, name, source, header, library):
-        """Compiles the program of another store. Returns None, and says so, if the system lacks its library."""
+        """Compiles the program of another store. Returns None, and says so, if the system lacks its
+        library."""
         asked = {"input": f"#include <{header}>\n", "text": True, "capture_output": True}
-        if not shutil.which("g++") or subprocess.run(["g++", "-E", "-x", "c++", "-"], **asked).returncode:
+        if (
+            not shutil.which("g++")
+            or subprocess.run(["g++", "-E", "-x", "c++", "-"], **asked).returncode
+        ):
             print(f"{name} is skipped: no {header}, or no g++")
             return None
         program = self.work / f"in-{source}.program"
-        subprocess.run(["g++", "-std=c++17", "-O2", "-o", program, HERE / source, library], check=True)
+        subprocess.run(
+            ["g++", "-std=c++17", "-O2", "-o", program, HERE / source, library], check=True
+        )
         return [program]
 
     def both(self):
         return [("store", self.store), ("plain", self.plain)]
 
     def fills(self):
-        """Each that is there with the word by which it fills a folder, and the words behind the numbers."""
+        """Each that is there with the word by which it fills a folder, and the words behind the
+        numbers."""
         found = [
             ("store", self.store, "fill", [NO_LIMIT]),
             ("recorded", self.store, "record", [NO_LIMIT]),
@@ -72,13 +87,15 @@ class Programs:
         return [it for it in found if it[1]]
 
     def opens(self, keys):
-        """Each that is there with the words behind the folder by which it opens what it filled, and deletes."""
+        """Each that is there with the words behind the folder by which it opens what it filled, and
+        deletes."""
         others = ((name, program, [keys]) for name, program in self.others.items())
         return [*((name, program, []) for name, program in self.both() if program), *others]
 
 
 def go_first():
-    """Takes the highest priority, where that is allowed: then other work on the machine takes little from a run."""
+    """Takes the highest priority, where that is allowed: then other work on the machine takes
+    little from a run."""
     try:
         os.nice(-20)
     except PermissionError:
@@ -86,14 +103,19 @@ def go_first():
 
 
 def run(program, *words):
-    """Runs a program. Returns for each stage its count and its nanoseconds, and the most memory that the run had."""
+    """Runs a program. Returns for each stage its count and its nanoseconds, and the most memory
+    that the run had."""
     called = [*map(str, program), *map(str, words)]
-    with subprocess.Popen(called, text=True, stdout=subprocess.PIPE, preexec_fn=go_first) as process:
+    with subprocess.Popen(
+        called, text=True, stdout=subprocess.PIPE, preexec_fn=go_first
+    ) as process:
         told = process.stdout.read()
         _, status, usage = os.wait4(process.pid, 0)
         process.returncode = os.waitstatus_to_exitcode(status)
     if process.returncode:
-        raise SystemExit(f"dev bench: {program[0]} {words[0]} ended with status {process.returncode}")
+        raise SystemExit(
+            f"dev bench: {program[0]} {words[0]} ended with status {process.returncode}"
+        )
     stages = {}
     for line in told.splitlines():
         stage, count, nanoseconds = line.split()
@@ -105,9 +127,19 @@ def syncs(program, *words):
     """How often a run calls fsync or fdatasync; None where no strace is found."""
     if not shutil.which("strace"):
         return None
-    counted = ["strace", "-f", "-c", "-e", "trace=fsync,fdatasync", *map(str, program), *map(str, words)]
+    counted = [
+        "strace",
+        "-f",
+        "-c",
+        "-e",
+        "trace=fsync,fdatasync",
+        *map(str, program),
+        *map(str, words),
+    ]
     told = subprocess.run(counted, text=True, capture_output=True).stderr
-    return sum(int(it) for it in re.findall(r"^\s*\S+\s+\S+\s+\S+\s+(\d+)\s.*f(?:data)?sync$", told, re.M))
+    return sum(
+        int(it) for it in re.findall(r"^\s*\S+\s+\S+\s+\S+\s+(\d+)\s.*f(?:data)?sync$", told, re.M)
+    )
 
 
 class Folders:
@@ -130,7 +162,9 @@ def logs_of(folder):
 def must_be_same(one, other):
     """The logs of both folders have the same bytes."""
     names = [[path.name for path in logs_of(folder)] for folder in (one, other)]
-    same = names[0] == names[1] and all((one / it).read_bytes() == (other / it).read_bytes() for it in names[0])
+    same = names[0] == names[1] and all(
+        (one / it).read_bytes() == (other / it).read_bytes() for it in names[0]
+    )
     if not same:
         raise SystemExit("dev bench: the two programs did not write the same logs")
 
@@ -163,7 +197,9 @@ def fill_syncs(programs, folders, length, batch):
     """How many syncs one publish more makes, for each program."""
     made = {}
     for name, program, word, limit in programs.fills():
-        few, more = (syncs(program, word, folders.fresh("synced"), length, batch, n, *limit) for n in (2, 12))
+        few, more = (
+            syncs(program, word, folders.fresh("synced"), length, batch, n, *limit) for n in (2, 12)
+        )
         made[name] = None if few is None else (more - few) / 10
     return made
 
@@ -171,7 +207,10 @@ def fill_syncs(programs, folders, length, batch):
 def show_fill(programs, folders, length, batch, publishes):
     count = batch * publishes
     least = fill_times(programs, folders, length, batch, publishes)
-    print(f"\n{count:,} entries of {length:,} bytes, {batch:,} a publish: microseconds an entry, least of {RUNS} runs")
+    print(
+        f"\n{count:,} entries of {length:,} bytes, {batch:,} a publish: microseconds an entry, "
+        f"least of {RUNS} runs"
+    )
     row("", "store", "plain Rust", "ratio", "recorded", "to store")
 
     def show(title, plus, minus=()):
@@ -192,7 +231,10 @@ def show_fill(programs, folders, length, batch, publishes):
     show("read by a lease, files warm", ["fetch"])
     show_others(least, count)
     made = fill_syncs(programs, folders, length, batch // 10)
-    print("syncs a publish: " + ", ".join(f"{name} {'-' if it is None else f'{it:g}'}" for name, it in made.items()))
+    print(
+        "syncs a publish: "
+        + ", ".join(f"{name} {'-' if it is None else f'{it:g}'}" for name, it in made.items())
+    )
 
 
 def show_others(least, count):
@@ -214,14 +256,22 @@ def show_others(least, count):
 
 def show_publishes(programs, folders):
     """Publishes of several sizes, with and without the manifest of the logs."""
-    print(f"\npublishes of entries of 100 bytes on a directory: microseconds a publish, least of {SYNC_RUNS} runs")
+    print(
+        "\npublishes of entries of 100 bytes on a directory: microseconds a publish, least of "
+        f"{SYNC_RUNS} runs"
+    )
     row("", "publish", "recorded", "ratio", "flush", "recorded", "ratio")
     for batch, publishes in PUBLISHES:
         least = {}
         for _ in range(SYNC_RUNS):
             for word in ("fill", "record"):
-                stages, _ = run(programs.store, word, folders.fresh(word), 100, batch, publishes, NO_LIMIT)
-                for name, parts in (("publish", ("publish",)), ("flush", ("add", "write", "publish"))):
+                stages, _ = run(
+                    programs.store, word, folders.fresh(word), 100, batch, publishes, NO_LIMIT
+                )
+                for name, parts in (
+                    ("publish", ("publish",)),
+                    ("flush", ("add", "write", "publish")),
+                ):
                     took = sum(stages[it][1] for it in parts) / publishes / 1000
                     least[name, word] = min(took, least.get((name, word), took))
         shown = []
@@ -232,7 +282,8 @@ def show_publishes(programs, folders):
 
 
 def forget(folder):
-    """Has the system forget what it keeps of the files, so that the next reading is from the device."""
+    """Has the system forget what it keeps of the files, so that the next reading is from the
+    device."""
     for path in logs_of(folder):
         with open(path) as file:
             os.fsync(file.fileno())
@@ -242,13 +293,17 @@ def forget(folder):
 def read_time(folder):
     """How long cat takes for all logs, in nanoseconds."""
     begun = time.monotonic_ns()
-    subprocess.run(["cat", *logs_of(folder)], stdout=subprocess.DEVNULL, check=True, preexec_fn=go_first)
+    subprocess.run(
+        ["cat", *logs_of(folder)], stdout=subprocess.DEVNULL, check=True, preexec_fn=go_first
+    )
     return time.monotonic_ns() - begun
 
 
 def show_opening(programs, folder):
     size = sum(path.stat().st_size for path in logs_of(folder))
-    print(f"\nopening {len(logs_of(folder))} logs, {size:,} bytes: milliseconds, least of {RUNS} runs")
+    print(
+        f"\nopening {len(logs_of(folder))} logs, {size:,} bytes: milliseconds, least of {RUNS} runs"
+    )
     row("", "store", "plain Rust", "ratio", "cat")
     for title, is_cold in (("files warm", False), ("files not in memory", True)):
         least = {}
@@ -258,9 +313,16 @@ def show_opening(programs, folder):
                     continue
                 if is_cold:
                     forget(folder)
-                took = read_time(folder) if name == "cat" else run(program, "open", folder)[0]["open"][1]
+                took = (
+                    read_time(folder)
+                    if name == "cat"
+                    else run(program, "open", folder)[0]["open"][1]
+                )
                 least[name] = min(took, least.get(name, took))
-        shown = ["-" if name not in least else f"{least[name] / 1e6:,.1f}" for name in ("store", "plain", "cat")]
+        shown = [
+            "-" if name not in least else f"{least[name] / 1e6:,.1f}"
+            for name in ("store", "plain", "cat")
+        ]
         row(title, shown[0], shown[1], ratio(least.get("store"), least["plain"]), shown[2])
 
 
@@ -279,10 +341,17 @@ def show_compaction(programs, folders, folder):
             copy.rename(copies[name] / copy.name)
     if len(copies) == 2:
         must_be_same(*copies.values())
-    print(f"\ncompaction of a log of {before[0].stat().st_size:,} bytes, a tenth dead: microseconds a moved entry")
+    print(
+        f"\ncompaction of a log of {before[0].stat().st_size:,} bytes, a tenth dead: microseconds "
+        "a moved entry"
+    )
     row("", "store", "plain Rust", "ratio")
     each = [least.get(name) and least[name] / moved[name] / 1000 for name in ("store", "plain")]
-    row(f"{moved['plain']:,} entries", *("-" if not it else f"{it:.2f}" for it in each), ratio(*each))
+    row(
+        f"{moved['plain']:,} entries",
+        *("-" if not it else f"{it:.2f}" for it in each),
+        ratio(*each),
+    )
 
 
 def show_memory(programs, folders):

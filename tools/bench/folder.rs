@@ -1,9 +1,11 @@
-//! The work of `bk_bench folder` in plain Rust, with maps, lists and files of the standard library and nothing proved.
+//! The work of `bk_bench folder` in plain Rust, with maps, lists and files of the standard library
+//! and nothing proved.
 //!
-//! Words and lines are those of bk_bench behind `folder`: `fill DIR LENGTH BATCH PUBLISHES LIMIT`, `open DIR`,
-//! `compact DIR`; and those of bk_bench_openings: `seal` with the words of `fill`, `scanned DIR`, `hinted DIR`. It asks of the
-//! system what the store asks: a write for each record, a sync for each publish and for each log of an opening, reads of the
-//! same windows. The logs that it writes are the store's, byte for byte. `sorted DIR` is `hinted`, but the map of all keys is
+//! Words and lines are those of bk_bench behind `folder`: `fill DIR LENGTH BATCH PUBLISHES LIMIT`,
+//! `open DIR`, `compact DIR`; and those of bk_bench_openings: `seal` with the words of `fill`,
+//! `scanned DIR`, `hinted DIR`. It asks of the system what the store asks: a write for each record,
+//! a sync for each publish and for each log of an opening, reads of the same windows. The logs that
+//! it writes are the store's, byte for byte. `sorted DIR` is `hinted`, but the map of all keys is
 //! made at once, of a sorted list.
 
 mod digest;
@@ -229,7 +231,8 @@ impl Store {
         })
     }
 
-    /// Reads the hint of a log, its header and its ledgers map. Inserts the keys into the index, or adds them to a list.
+    /// Reads the hint of a log, its header and its ledgers map. Inserts the keys into the index, or
+    /// adds them to a list.
     fn take_in_hint(
         &mut self,
         number: u32,
@@ -468,8 +471,8 @@ struct Found {
     size: u64,
 }
 
-/// A walk over the records of a log, by windows. A record's head that is not in the window is read alone, and then a window
-/// of twice the bytes of the one before.
+/// A walk over the records of a log, by windows. A record's head that is not in the window is read
+/// alone, and then a window of twice the bytes of the one before.
 struct Scan<'a> {
     file: &'a File,
     end: u64,

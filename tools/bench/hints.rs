@@ -1,4 +1,5 @@
-//! Hints of logs in plain Rust (crates/bk_hint has their format): which entries one lists, and whether it is that of a log.
+//! Hints of logs in plain Rust (crates/bk_hint has their format): which entries one lists, and
+//! whether it is that of a log.
 
 use std::collections::BTreeMap;
 
@@ -19,7 +20,8 @@ pub struct Hint<'a> {
     steps: &'a [u8],
 }
 
-/// Entries of one ledger and one size, each directly behind the last: the first one's ids and payload, the bytes of a record.
+/// Entries of one ledger and one size, each directly behind the last: the first one's ids and
+/// payload, the bytes of a record.
 #[derive(Clone, Copy)]
 pub struct Run {
     pub key: (u64, u64),
@@ -101,7 +103,8 @@ impl<'a> Hint<'a> {
         })
     }
 
-    /// The entries in the order of the file; `None` stands for one that is not legal, and ends them.
+    /// The entries in the order of the file; `None` stands for one that is not legal, and ends
+    /// them.
     pub fn runs(&self) -> impl Iterator<Item = Option<Run>> + '_ {
         let mut heads = self.heads.chunks_exact(HEAD);
         let mut steps = self.steps.chunks_exact(STEP);
@@ -131,8 +134,9 @@ impl<'a> Hint<'a> {
         std::iter::from_fn(move || next())
     }
 
-    /// Whether this is the hint of the log of this number and length, with this header, and with these bytes from the place on
-    /// that the header has for the ledgers map. Gives the bytes of each ledger's records.
+    /// Whether this is the hint of the log of this number and length, with this header, and with
+    /// these bytes from the place on that the header has for the ledgers map. Gives the bytes of
+    /// each ledger's records.
     pub fn sizes(
         &self,
         log: u32,

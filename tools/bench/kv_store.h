@@ -1,13 +1,17 @@
-// The work of the programs leveldb.cc, rocksdb.cc and lmdb.cc: the entries of `bk_bench folder` in another store.
+// The work of the programs leveldb.cc, rocksdb.cc and lmdb.cc: the entries of `bk_bench folder` in
+// another store.
 //
-// Words: `fill DIR LENGTH BATCH PUBLISHES`, `load` with the same words, `open DIR KEYS` or `reopen DIR KEYS`. A key is an
-// entry's two ids, its value the payload behind them. Lines tell a stage, for how many entries it did its work, and the
-// nanoseconds that it took: `publish` all batches, each written as one and synced; `fetch` reads in the order of the writes;
-// `scan` all values in key order; `open` the opening of the filled directory; `delete` every tenth ledger, not synced. `load`
-// only publishes, in the order of the keys, which makes less work behind. `reopen` opens, and reads an entry, `get`.
+// Words: `fill DIR LENGTH BATCH PUBLISHES`, `load` with the same words, `open DIR KEYS` or `reopen
+// DIR KEYS`. A key is an entry's two ids, its value the payload behind them. Lines tell a stage,
+// for how many entries it did its work, and the nanoseconds that it took: `publish` all batches,
+// each written as one and synced; `fetch` reads in the order of the writes; `scan` all values in
+// key order; `open` the opening of the filled directory; `delete` every tenth ledger, not synced.
+// `load` only publishes, in the order of the keys, which makes less work behind. `reopen` opens,
+// and reads an entry, `get`.
 //
-// A Store is made of a path and opens or creates the store there. It has `put(first, count, value)`, which writes the entries
-// of these numbers as one synced batch, `get(key)`, `scan()`, which returns how many values it met, and `remove(ledger)`.
+// A Store is made of a path and opens or creates the store there. It has `put(first, count,
+// value)`, which writes the entries of these numbers as one synced batch, `get(key)`, `scan()`,
+// which returns how many values it met, and `remove(ledger)`.
 
 #ifndef KV_STORE_H
 #define KV_STORE_H
@@ -36,7 +40,8 @@ inline std::string key_of(uint64_t ledger, uint64_t entry) {
   return key;
 }
 
-// How many entries of a ledger come one after another; if this is 0, one entry of each ledger comes after another.
+// How many entries of a ledger come one after another; if this is 0, one entry of each ledger comes
+// after another.
 inline uint64_t kept_together = 0;
 
 inline std::string key_at(uint64_t number) {

@@ -1,4 +1,5 @@
-"""Measures openings by hints and by scanning, beside plain Rust, LevelDB, RocksDB and LMDB: ./dev bench openings."""
+"""Measures openings by hints and by scanning, beside plain Rust, LevelDB, RocksDB and LMDB: ./dev
+bench openings."""
 
 import collections
 import contextlib
@@ -12,7 +13,8 @@ import folder
 import hint_files
 from counting import stop
 
-# The bytes of an entry, the entries of a flush, how many flushes, the most bytes of a log, and how often it is opened.
+# The bytes of an entry, the entries of a flush, how many flushes, the most bytes of a log, and how
+# often it is opened.
 Shape = collections.namedtuple("Shape", "length batch publishes limit runs")
 SHAPES = [
     Shape(1_024, 10_000, 97, 100_000_000, 5),
@@ -21,8 +23,8 @@ SHAPES = [
 # The same in small, for programs that are not proved.
 SMALL = Shape(1_024, 100, 3, 100_000, 1)
 SCANNED, HINTED = "store, by scanning", "store, by hints"
-# What a run told: nanoseconds of the opening, and of the whole program processor time, bytes that it read by calls, bytes
-# that came from the device, and the most memory.
+# What a run told: nanoseconds of the opening, and of the whole program processor time, bytes that
+# it read by calls, bytes that came from the device, and the most memory.
 Run = collections.namedtuple("Run", "opening processor read device memory")
 COLUMNS = (
     "opening",
@@ -43,9 +45,12 @@ def stages_of(text):
 
 
 def opened(words, keys):
-    """Runs an opening. The system tells of a program that ended what it read, until its status is taken."""
+    """Runs an opening. The system tells of a program that ended what it read, until its status is
+    taken."""
     called = list(map(str, words))
-    with subprocess.Popen(called, text=True, stdout=subprocess.PIPE, preexec_fn=folder.go_first) as process:
+    with subprocess.Popen(
+        called, text=True, stdout=subprocess.PIPE, preexec_fn=folder.go_first
+    ) as process:
         told = process.stdout.read()
         os.waitid(os.P_PID, process.pid, os.WEXITED | os.WNOWAIT)
         with open(f"/proc/{process.pid}/io") as file:
@@ -58,7 +63,13 @@ def opened(words, keys):
     if stages["open"][0] != keys or stages.get("unused", (0, 0))[0]:
         stop(f"{called[0]} {called[1]} opened with other keys, or did not use a hint: {told}")
     processor = int(1e9 * (usage.ru_utime + usage.ru_stime))
-    return Run(stages["open"][1], processor, int(io["rchar"]), int(io["read_bytes"]), 1024 * usage.ru_maxrss)
+    return Run(
+        stages["open"][1],
+        processor,
+        int(io["rchar"]),
+        int(io["read_bytes"]),
+        1024 * usage.ru_maxrss,
+    )
 
 
 def remember(path):
@@ -70,7 +81,8 @@ def remember(path):
 
 
 def forget(path):
-    """Has the system forget what it keeps of the files of a directory: their pages, and where it may, inodes and names."""
+    """Has the system forget what it keeps of the files of a directory: their pages, and where it
+    may, inodes and names."""
     for file in path.iterdir():
         with open(file) as it:
             os.fsync(it.fileno())
@@ -86,13 +98,17 @@ def size_of(path, ending=""):
 def write_hints(path):
     """Writes the hint of each log, without the program."""
     for log in folder.logs_of(path):
-        log.with_suffix(".hint").write_bytes(hint_files.hint_of(int(log.stem, 16), log.read_bytes()))
+        log.with_suffix(".hint").write_bytes(
+            hint_files.hint_of(int(log.stem, 16), log.read_bytes())
+        )
 
 
 def must_be_hints(path):
     """The hints are those that tools/logs/hint_files.py makes of the logs."""
     for log in folder.logs_of(path):
-        if log.with_suffix(".hint").read_bytes() != hint_files.hint_of(int(log.stem, 16), log.read_bytes()):
+        if log.with_suffix(".hint").read_bytes() != hint_files.hint_of(
+            int(log.stem, 16), log.read_bytes()
+        ):
             stop(f"the hint of {log.name} is another one")
 
 
@@ -108,7 +124,9 @@ class Openings:
     def fill(self):
         """Writes the logs, their hints, and the other stores."""
         words = self.shape.length, self.shape.batch, self.shape.publishes
-        folder.run(self.programs.store or self.programs.plain, "seal", self.logs, *words, self.shape.limit)
+        folder.run(
+            self.programs.store or self.programs.plain, "seal", self.logs, *words, self.shape.limit
+        )
         if self.programs.store:
             folder.run(self.programs.store, "hint", self.logs)
         else:
@@ -121,7 +139,11 @@ class Openings:
         if self.programs.store:
             yield SCANNED, [*self.programs.store, "scanned", self.logs], self.logs
             yield HINTED, [*self.programs.store, "hinted", self.logs], self.logs
-        for title, word in (("by scanning", "scanned"), ("by hints", "hinted"), ("by hints, keys sorted first", "sorted")):
+        for title, word in (
+            ("by scanning", "scanned"),
+            ("by hints", "hinted"),
+            ("by hints, keys sorted first", "sorted"),
+        ):
             yield f"plain Rust, {title}", [*self.programs.plain, word, self.logs], self.logs
         for name, program in self.programs.others.items():
             yield name, [*program, "reopen", self.stores[name], self.keys], self.stores[name]
@@ -140,18 +162,31 @@ class Openings:
         warm, cold = self.measure()
         logs, hints = size_of(self.logs, ".log"), size_of(self.logs, ".hint")
         print(
-            f"\n{len(folder.logs_of(self.logs))} logs of {logs:,} bytes with {self.keys:,} entries of {self.shape.length:,} bytes; "
-            f"their hints have {hints:,} bytes, {100 * hints / logs:.3f} %. {self.shape.runs} runs\n"
+            f"\n{len(folder.logs_of(self.logs))} logs of {logs:,} bytes with {self.keys:,} "
+            f"entries of {self.shape.length:,} bytes; "
+            f"their hints have {hints:,} bytes, {100 * hints / logs:.3f} %. {self.shape.runs} "
+            "runs\n"
         )
         print(f"| {' | '.join(COLUMNS)} |\n|{'---|' * len(COLUMNS)}")
         for name, _, path in self.ways():
-            print(f"| {' | '.join([name, *cells(warm[name], cold[name], size_of(path))])} |", flush=True)
+            print(
+                f"| {' | '.join([name, *cells(warm[name], cold[name], size_of(path))])} |",
+                flush=True,
+            )
         synced = [sync_time(self.logs) for _ in range(self.shape.runs)]
-        print(f"a sync of each log, which is among the store's and plain Rust's: {milliseconds(synced)} ms")
+        print(
+            "a sync of each log, which is among the store's and plain Rust's: "
+            f"{milliseconds(synced)} ms"
+        )
         for title in ("store", "plain Rust"):
             scanned, hinted = f"{title}, by scanning", f"{title}, by hints"
             if scanned in warm:
-                tell_goals(title, [found[scanned] for found in (warm, cold)], [found[hinted] for found in (warm, cold)], logs)
+                tell_goals(
+                    title,
+                    [found[scanned] for found in (warm, cold)],
+                    [found[hinted] for found in (warm, cold)],
+                    logs,
+                )
 
 
 def sync_time(path):
@@ -164,11 +199,14 @@ def sync_time(path):
 
 
 def milliseconds(times):
-    return " / ".join(f"{it / 1e6:,.{1 if it < 1e8 else 0}f}" for it in (min(times), statistics.median(times)))
+    return " / ".join(
+        f"{it / 1e6:,.{1 if it < 1e8 else 0}f}" for it in (min(times), statistics.median(times))
+    )
 
 
 def megabytes(memory):
-    """The most memory that a program had. One that had less than this one is told to have had as much as this one."""
+    """The most memory that a program had. One that had less than this one is told to have had as
+    much as this one."""
     own = 1024 * resource.getrusage(resource.RUSAGE_SELF).ru_maxrss
     return f"{'below ' if memory <= own else ''}{memory / 1e6:,.0f}"
 
@@ -188,17 +226,23 @@ def cells(warm, cold, size):
 
 def tell_goals(title, scanned, hinted, size):
     """How many times faster an opening by hints is, and how much of the logs it reads."""
-    times = [min(it.opening for it in ours) / min(it.opening for it in theirs) for ours, theirs in zip(scanned, hinted)]
+    times = [
+        min(it.opening for it in ours) / min(it.opening for it in theirs)
+        for ours, theirs in zip(scanned, hinted)
+    ]
     processor = [min(it.processor for it in runs[0]) for runs in (scanned, hinted)]
     share = 100 * min(it.read for it in hinted[0]) / size
     print(
-        f"{title}, by hints: {times[0]:.1f} times faster with the files in memory ({processor[0] / processor[1]:.1f} times less "
-        f"processor time), {times[1]:.1f} times without; it reads {share:.2f} % of the bytes of the logs"
+        f"{title}, by hints: {times[0]:.1f} times faster with the files in memory "
+        f"({processor[0] / processor[1]:.1f} times less "
+        f"processor time), {times[1]:.1f} times without; it reads {share:.2f} % of the bytes of "
+        "the logs"
     )
 
 
 def measure(work, store=None):
-    """All tables. `store` is a program of the store with the words `seal`, `hint`, `scanned` and `hinted`, if there is one."""
+    """All tables. `store` is a program of the store with the words `seal`, `hint`, `scanned` and
+    `hinted`, if there is one."""
     programs, folders = folder.Programs(work, None), folder.Folders(work)
     programs.store = [store] if store else None
     if not os.access(DROP, os.W_OK):

@@ -1,4 +1,5 @@
-//! The work of the program bk_bench in plain Rust, with maps and lists of the standard library and nothing proved.
+//! The work of the program bk_bench in plain Rust, with maps and lists of the standard library and
+//! nothing proved.
 //!
 //! Words and lines are those of bk_bench: `entries N ORDER`, `trail N..`, `memory WHAT N ORDER`.
 
@@ -302,8 +303,8 @@ impl Window<'_> {
     }
 }
 
-/// The C library puts in order what was given back when somebody asks for much at once. This has it do so, before what is
-/// counted next.
+/// The C library puts in order what was given back when somebody asks for much at once. This has it
+/// do so, before what is counted next.
 fn tidy() {
     for _ in 0..32 {
         black_box(vec![0u8; 65_536]);

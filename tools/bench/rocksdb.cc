@@ -1,4 +1,5 @@
-// The entries of `bk_bench folder` in RocksDB (kv_store.h). A ledger is deleted by its range, without a visit of its keys.
+// The entries of `bk_bench folder` in RocksDB (kv_store.h). A ledger is deleted by its range,
+// without a visit of its keys.
 
 #include "kv_store.h"
 

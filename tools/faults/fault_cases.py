@@ -1,4 +1,5 @@
-"""The commands that ./dev faults lets fail, each on a folder of its own, and what must hold afterwards."""
+"""The commands that ./dev faults lets fail, each on a folder of its own, and what must hold
+afterwards."""
 
 import random
 import re
@@ -18,7 +19,11 @@ def data_of(ledger, entry):
 
 
 def entries(first, count):
-    return {(ledger, entry): data_of(ledger, entry) for entry in range(first, first + count) for ledger in LEDGERS}
+    return {
+        (ledger, entry): data_of(ledger, entry)
+        for entry in range(first, first + count)
+        for ledger in LEDGERS
+    }
 
 
 def flush_steps(texts, again=False):
@@ -88,7 +93,8 @@ class Case:
         return base
 
     def story(self, ran):
-        """The entries that the run reports as published, those that it may leave, and the dead ledgers."""
+        """The entries that the run reports as published, those that it may leave, and the dead
+        ledgers."""
         return {}, {}, self.dead
 
     def looked(self, ran):
@@ -107,7 +113,8 @@ class Case:
         return []
 
     def again(self, call, folder):
-        """The same call once more. Returns what was published then, and why it leads nowhere, or None."""
+        """The same call once more. Returns what was published then, and why it leads nowhere, or
+        None."""
         ran = call(self.words(folder), self.text())
         return {}, None if ran.status == 0 else ran.last()
 
@@ -126,7 +133,11 @@ class Script(Case):
 
     def make_steps(self):
         first, second = entries(100, 2), entries(200, 2)
-        reads = [line for key in ((1, 0), (4, 7)) for line in (f"take 0 {key[0]} {key[1]}", "fetch 0", "release 0")]
+        reads = [
+            line
+            for key in ((1, 0), (4, 7))
+            for line in (f"take 0 {key[0]} {key[1]}", "fetch 0", "release 0")
+        ]
         return [*reads, *flush_steps(first, True), "roll", *flush_steps(second, True), *reads]
 
     def words(self, folder):
@@ -170,7 +181,16 @@ class ScriptJob(Script):
         steps = ["delete 2", "delete 3", "delete 5"]
         for _ in range(2):
             # The logs are those that the run without a fault chooses.
-            steps += ["major", "copy 100", "end", "switch 100", "finish", "retire 0", "close 0", "remove 0"]
+            steps += [
+                "major",
+                "copy 100",
+                "end",
+                "switch 100",
+                "finish",
+                "retire 0",
+                "close 0",
+                "remove 0",
+            ]
             steps += ["retire 1", "close 1", "remove 1", "giveup"]
         return [*steps, *flush_steps({(1, 300): "x", (4, 300): "y"}, True), "rebuild"]
 
@@ -184,7 +204,8 @@ class ScriptJob(Script):
         # After a deletion that was not recorded no step of the script is carried out.
         if "fault disk" in ran.out.splitlines()[:3]:
             return []
-        # After a failed sync of a manifest each record is refused until the directory is opened again, as the next call does.
+        # After a failed sync of a manifest each record is refused until the directory is opened
+        # again, as the next call does.
         if any("logs.manifest" in it and "sync" in it for it in ran.told.splitlines()):
             return []
         for step, answer in zip(self.lines, ran.out.splitlines()):
@@ -218,7 +239,8 @@ class Compact(Case):
 
 
 class CompactKept(Compact):
-    """A folder with what a crash may leave: a torn log, short ones with a copy and without, and an empty one."""
+    """A folder with what a crash may leave: a torn log, short ones with a copy and without, and an
+    empty one."""
 
     name = "compact-kept"
 
@@ -273,7 +295,9 @@ class Seal(Case):
 
     def make_base(self):
         base = super().make_base()
-        open_logs = [log for log, found in entry_logs.read_folder(base).items() if not found.is_sealed()]
+        open_logs = [
+            log for log, found in entry_logs.read_folder(base).items() if not found.is_sealed()
+        ]
         self.log = open_logs[-1]
         return base
 
@@ -311,7 +335,9 @@ class Cut(Seal):
         """The bytes that are cut off are in a copy."""
         path = folder / f"{self.log:x}.log"
         copies = [copy.read_bytes() for copy in folder.glob("*.torn*")]
-        is_there = path.exists() and (path.read_bytes().startswith(self.torn) or self.torn in copies)
+        is_there = path.exists() and (
+            path.read_bytes().startswith(self.torn) or self.torn in copies
+        )
         return [] if is_there else ["the bytes that are cut off are in no copy"]
 
     def again(self, call, folder):
@@ -346,14 +372,20 @@ class Hint(Case):
         return [] if same else ["a log is changed"]
 
     def again(self, call, folder):
-        """The hints are made then, and are right, unless a log was set aside: a writer has to take it back first."""
+        """The hints are made then, and are right, unless a log was set aside: a writer has to take
+        it back first."""
         if list(folder.glob("*.unsynced")):
             call(["script", "--folder", folder], "")
         ran = call(self.words(folder), "")
         check = self.program.call(["hint", "--check", folder])
         sealed = [log for log, found in entry_logs.read_folder(folder).items() if found.is_sealed()]
         are_right = all(f"{log} right" in check.out.splitlines() for log in sealed)
-        return {}, None if ran.status == 0 and check.status == 0 and are_right else f"{ran.last()}; {check.out.strip()[-100:]}"
+        return (
+            {},
+            None
+            if ran.status == 0 and check.status == 0 and are_right
+            else f"{ran.last()}; {check.out.strip()[-100:]}",
+        )
 
 
 class ScriptHinted(Script):
@@ -417,7 +449,11 @@ def reads():
     }  # fmt: skip
     for command, (before, operands) in calls.items():
         name = "dry-run" if command == "compact" else command
-        yield type(name, (Read,), {"name": name, "command": command, "before_folder": before, "operands": operands})
+        yield type(
+            name,
+            (Read,),
+            {"name": name, "command": command, "before_folder": before, "operands": operands},
+        )
 
 
 CASES = [

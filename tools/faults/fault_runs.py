@@ -1,4 +1,5 @@
-"""Runs a program with one failing call of the system, and looks what that left: for ./dev faults."""
+"""Runs a program with one failing call of the system, and looks what that left: for ./dev
+faults."""
 
 import errno
 import os
@@ -32,14 +33,16 @@ WRITING = "open,write,sync,remove,rename,cut,make,mode"
 READING = ("open", "read", "stat", "list")
 # A fault that the caller need not hear of: a call that goes on, or that is tried again.
 UNSEEN = ("short", "EINTR")
-# What the program may pass over: the number in the lock file tells who writes and no more, a file system need not lock
-# directories, a file that sets a log aside is removed by the next writer, and a hint that is left without its log by the next
-# `hint`, as one that was not written to its end.
-PASSED_OVER = re.compile(r"(write|cut) .*/writer\.lock|lock .*/logs|remove .*\.(unsynced|hint|hint\.new)")
+# What the program may pass over: the number in the lock file tells who writes and no more, a file
+# system need not lock directories, a file that sets a log aside is removed by the next writer, and
+# a hint that is left without its log by the next `hint`, as one that was not written to its end.
+PASSED_OVER = re.compile(
+    r"(write|cut) .*/writer\.lock|lock .*/logs|remove .*\.(unsynced|hint|hint\.new)"
+)
 
 
-# What a program says of what it could not read and does without: a hint, whose log it reads then, and the watermarks of an
-# earlier release.
+# What a program says of what it could not read and does without: a hint, whose log it reads then,
+# and the watermarks of an earlier release.
 DONE_WITHOUT = re.compile(r"note (hint not used: log \d+|watermarks not looked for): .*\n")
 
 
@@ -103,7 +106,9 @@ class Program:
             )  # fmt: skip
         except subprocess.TimeoutExpired:
             return Ran(None, "", f"hangs for {SECONDS} seconds")
-        return Ran(run.returncode, run.stdout.decode(errors="replace"), run.stderr.decode(errors="replace"))
+        return Ran(
+            run.returncode, run.stdout.decode(errors="replace"), run.stderr.decode(errors="replace")
+        )
 
 
 class Room:
@@ -115,7 +120,8 @@ class Room:
         self.logs, self.image = self.work / "logs", top / "image"
 
     def fill(self, base, beside):
-        """Makes the folder anew, as a copy of a durable one, without logs where the base is none, and files beside it."""
+        """Makes the folder anew, as a copy of a durable one, without logs where the base is none,
+        and files beside it."""
         for path in (self.work, self.shadow):
             shutil.rmtree(path, ignore_errors=True)
             path.mkdir()
@@ -126,7 +132,9 @@ class Room:
         self.files = {}
         for path in self.logs.glob("*") if base else ():
             self.files[path.stat().st_ino] = path.read_bytes()
-        self.names = {path.name: f"{path.stat().st_ino}.0" for path in self.logs.glob("*")} if base else None
+        self.names = (
+            {path.name: f"{path.stat().st_ino}.0" for path in self.logs.glob("*")} if base else None
+        )
 
     def call(self, words, steps, fault):
         """Calls the program with a fault. Returns how it ended, and the calls that counted."""
@@ -139,15 +147,21 @@ class Room:
         return ran, self.trace.read_text().splitlines()
 
     def synced_names(self):
-        """The names that are durable, each with the file that it leads to; None: not even the folder's own."""
+        """The names that are durable, each with the file that it leads to; None: not even the
+        folder's own."""
         if self.names is None:
             top = self.shadow / f"names.{self.work.stat().st_ino}"
-            if not top.exists() or not any(line.endswith(" logs") for line in top.read_text().splitlines()):
+            if not top.exists() or not any(
+                line.endswith(" logs") for line in top.read_text().splitlines()
+            ):
                 return None
         kept = self.shadow / f"names.{self.logs.stat().st_ino}" if self.logs.exists() else None
         if kept is None or not kept.exists():
             return self.names or {}
-        return {name: file for file, name in (line.split(" ", 1) for line in kept.read_text().splitlines())}
+        return {
+            name: file
+            for file, name in (line.split(" ", 1) for line in kept.read_text().splitlines())
+        }
 
     def synced_bytes(self, file):
         kept = self.shadow / file
@@ -158,7 +172,11 @@ class Room:
 
     def written(self):
         """The files that are there."""
-        return {path.name: path.read_bytes() for path in self.logs.glob("*")} if self.logs.exists() else {}
+        return (
+            {path.name: path.read_bytes() for path in self.logs.glob("*")}
+            if self.logs.exists()
+            else {}
+        )
 
     def live(self):
         """Each file that is there: its bytes, and those of them that are durable."""
@@ -166,22 +184,36 @@ class Room:
         known = self.shadow / "known"
         data = known.read_bytes() if known.exists() else b""
         for at in range(0, len(data), 16):
-            births[int.from_bytes(data[at : at + 8], "little")] = int.from_bytes(data[at + 8 : at + 12], "little")
+            births[int.from_bytes(data[at : at + 8], "little")] = int.from_bytes(
+                data[at + 8 : at + 12], "little"
+            )
         found = {}
         for path in self.logs.glob("*") if self.logs.exists() else ():
             inode = path.stat().st_ino
-            found[path.name] = (path.read_bytes(), self.synced_bytes(f"{inode}.{births.get(inode, 0)}"))
+            found[path.name] = (
+                path.read_bytes(),
+                self.synced_bytes(f"{inode}.{births.get(inode, 0)}"),
+            )
         return found
 
     def images(self):
-        """What may be found after a power loss, beside what is there: the files by name, None where not even the folder is."""
+        """What may be found after a power loss, beside what is there: the files by name, None where
+        not even the folder is."""
         names, live = self.synced_names(), self.live()
-        synced = None if names is None else {name: self.synced_bytes(file) for name, file in names.items()}
+        synced = (
+            None
+            if names is None
+            else {name: self.synced_bytes(file) for name, file in names.items()}
+        )
         half = {}
         for name, (whole, kept) in live.items():
             tail = whole[len(kept) :] if whole.startswith(kept) else b""
             half[name] = kept + tail[: len(tail) // 2]
-        return {"synced": synced, "names": {name: kept for name, (_, kept) in live.items()}, "half": half}
+        return {
+            "synced": synced,
+            "names": {name: kept for name, (_, kept) in live.items()},
+            "half": half,
+        }
 
     def lay(self, files):
         """Writes files into the image's folder. Returns it."""
@@ -223,7 +255,8 @@ def way_on(program, folder, ran):
 
 
 def open_and_read(program, folder, keys, dead):
-    """Opens a store on a folder and reads keys. Returns what was found, None for no entry, or why it does not open."""
+    """Opens a store on a folder and reads keys. Returns what was found, None for no entry, or why
+    it does not open."""
     keys = list(keys)
     steps = "".join(f"take 0 {ledger} {entry}\nfetch 0\nrelease 0\n" for ledger, entry in keys)
     for _ in range(20):
@@ -246,7 +279,8 @@ def open_and_read(program, folder, keys, dead):
 
 
 class Looked:
-    """What was found in a folder that should have certain entries: what is lost, and what leads nowhere."""
+    """What was found in a folder that should have certain entries: what is lost, and what leads
+    nowhere."""
 
     def __init__(self, must, may, dead, only=True):
         self.must, self.may, self.dead, self.only = must, may, dead, only
@@ -259,11 +293,15 @@ class Looked:
     def compare(self, found, how):
         for key, data in self.must.items():
             if key[0] not in self.dead and found.get(key) != data:
-                self.lost.append(f"{how}, entry {key[1]} of ledger {key[0]} is {found.get(key)!r:.40}")
+                self.lost.append(
+                    f"{how}, entry {key[1]} of ledger {key[0]} is {found.get(key)!r:.40}"
+                )
         for key, data in found.items():
             wanted = {self.must.get(key), self.may.get(key)} - {None}
             if data is not None and data not in wanted and (self.only or wanted):
-                self.lost.append(f"{how}, entry {key[1]} of ledger {key[0]}, which nobody added, is {data!r:.40}")
+                self.lost.append(
+                    f"{how}, entry {key[1]} of ledger {key[0]}, which nobody added, is {data!r:.40}"
+                )
 
     def look(self, program, folder):
         """Reads a folder beside the program, and by it, as the printed ways on allow."""
@@ -276,7 +314,8 @@ class Looked:
 
 
 def is_named(ran, hits, fault, says_reason):
-    """Whether a run that met a fault names it; with a file and the reason where the command promises both."""
+    """Whether a run that met a fault names it; with a file and the reason where the command
+    promises both."""
     if "fault" not in ran.out + ran.told:
         return False
     if not says_reason or fault.errno() is None:
@@ -289,7 +328,8 @@ def is_named(ran, hits, fault, says_reason):
 
 
 def variants():
-    """Each kind of fault: the kinds of calls that count, how one fails, and whether later ones do."""
+    """Each kind of fault: the kinds of calls that count, how one fails, and whether later ones
+    do."""
     for kind, names in ONCE.items():
         for name in names:
             yield kind, name, False

@@ -4,16 +4,17 @@
 //   FAULT_FOLDER  the folder, an absolute path without links; a call on it or below it is traced
 //   FAULT_KINDS   the kinds of calls that count, each between commas: ,open,read,write,sync,..
 //   FAULT_AT      which call of these meets the fault, from 1; 0: none
-//   FAULT_HOW     a number: the call fails with that errno. short: a read or write moves half. full: so
-//                 does this write, and later ones have no space. nearly: the same, but all bytes except the
-//                 last are written. kill: the process ends before the call
+//   FAULT_HOW     a number: the call fails with that errno. short: a read or write moves half.
+//                 full: so does this write, and later ones have no space. nearly: the same, but all
+//                 bytes except the last are written. kill: the process ends before the call
 //   FAULT_STAYS   1: later calls of these kinds fail too
-//   FAULT_SLOW    microseconds that each read at a place (`pread`) waits before, as on a slow device
+//   FAULT_SLOW    microseconds that each read at a place (`pread`) waits before, as on a slow
+//                 device
 //   FAULT_TRACE   a file that gets a line for each call that counts, with ! in front at the fault
-//   FAULT_SHADOW  a folder that gets what a power loss leaves: the bytes of a file at its last sync,
-//                 INODE.BIRTHS, and the names at the folder's last sync, `names`. A file whose sync failed is
-//                 synced no more, as the kernel may drop what it could not write. The next process goes on
-//                 from there.
+//   FAULT_SHADOW  a folder that gets what a power loss leaves: the bytes of a file at its last
+//                 sync, INODE.BIRTHS, and the names at the folder's last sync, `names`. A file
+//                 whose sync failed is synced no more, as the kernel may drop what it could not
+//                 write. The next process goes on from there.
 #define _GNU_SOURCE
 #include <dirent.h>
 #include <errno.h>

@@ -1,7 +1,7 @@
 """Damages of hints, and the logs whose hints are damaged: for ./dev faults --hints.
 
-A damage makes bytes of the hint of a log, or a file of another kind in its place. Those named `forged: ..` have a checksum
-that fits what they list.
+A damage makes bytes of the hint of a log, or a file of another kind in its place. Those named
+`forged: ..` have a checksum that fits what they list.
 """
 
 import os
@@ -28,8 +28,8 @@ class Logs:
         return hint_files.listed(hint) == self.entries[log]
 
 
-
-# ---- damages of bytes: each takes a source of chance, the logs, an id and the hint, and returns bytes
+# ---- damages of bytes: each takes a source of chance, the logs, an id and the hint, and returns
+# bytes
 
 
 def flipped(chance, logs, log, hint):
@@ -48,7 +48,9 @@ def cut_in_front(chance, logs, log, hint):
 
 
 def extended(chance, logs, log, hint):
-    more = chance.choice((bytes(chance.randrange(1, 64)), chance.randbytes(chance.randrange(1, 64)), hint, hint[-4:]))
+    more = chance.choice(
+        (bytes(chance.randrange(1, 64)), chance.randbytes(chance.randrange(1, 64)), hint, hint[-4:])
+    )
     return hint + more
 
 
@@ -67,7 +69,9 @@ def earlier(chance, logs, log, hint):
     more = chance.randrange(1, 1000)
     entries = [(ledger + more, *rest) for ledger, *rest in logs.entries[log]]
     number, length, checksum = hint_files.facts_of(log, logs.logs[log])
-    return packed(number, length, checksum ^ chance.randrange(1, 1 << 32), *hint_files.steps_of(entries))
+    return packed(
+        number, length, checksum ^ chance.randrange(1, 1 << 32), *hint_files.steps_of(entries)
+    )
 
 
 def zeroed(chance, logs, log, hint):
@@ -77,7 +81,9 @@ def zeroed(chance, logs, log, hint):
 
 
 def garbage(chance, logs, log, hint):
-    return chance.choice((b"", b"B", chance.randbytes(36), chance.randbytes(len(hint)), bytes(len(hint)), hint[:36]))
+    return chance.choice(
+        (b"", b"B", chance.randbytes(36), chance.randbytes(len(hint)), bytes(len(hint)), hint[:36])
+    )
 
 
 def moved(chance, logs, log, hint):
@@ -97,7 +103,9 @@ def parts(hint):
 
 def near(chance, value, most):
     """A number near another one, or any other."""
-    change = chance.choice((-1, 1, 2, -2, 4, -4, chance.randrange(-300, 300), chance.randrange(most)))
+    change = chance.choice(
+        (-1, 1, 2, -2, 4, -4, chance.randrange(-300, 300), chance.randrange(most))
+    )
     return (value + change) % most
 
 
@@ -143,7 +151,15 @@ def forged_step(chance, logs, log, hint):
     facts, heads, steps = parts(hint)
     if steps:
         at = chance.randrange(len(steps))
-        steps[at] = chance.choice((near(chance, steps[at], 1 << 32), BEGIN, AGAIN, AGAIN + chance.randrange(9), 16 + chance.randrange(300)))
+        steps[at] = chance.choice(
+            (
+                near(chance, steps[at], 1 << 32),
+                BEGIN,
+                AGAIN,
+                AGAIN + chance.randrange(9),
+                16 + chance.randrange(300),
+            )
+        )
     return packed(*facts, heads, steps)
 
 
@@ -169,7 +185,8 @@ def laid(entries):
 
 
 def forged_entries(change):
-    """The entries are changed, and laid one behind another again: the log's bytes by ledger stay, so only its records differ."""
+    """The entries are changed, and laid one behind another again: the log's bytes by ledger stay,
+    so only its records differ."""
 
     def forge(chance, logs, log, hint):
         entries = [list(it) for it in logs.entries[log]]
@@ -201,7 +218,8 @@ def other_order(chance, entries):
 
 
 def ids_shifted(chance, entries):
-    """As in an earlier log of this id, with the same ledgers map: no forger makes it, but another bookie or a lost directory."""
+    """As in an earlier log of this id, with the same ledgers map: no forger makes it, but another
+    bookie or a lost directory."""
     more = chance.randrange(1, 1000)
     for entry in entries:
         entry[1] += more
@@ -246,4 +264,9 @@ BYTES = {
     "forged: another order": forged_entries(other_order),
     "hint of an earlier log with the same ledgers map": forged_entries(ids_shifted),
 }
-PLACES = {"a directory": Path.mkdir, "a pipe": os.mkfifo, "a link to nothing": link_to_nothing, "a link to itself": link_to_itself}
+PLACES = {
+    "a directory": Path.mkdir,
+    "a pipe": os.mkfifo,
+    "a link to nothing": link_to_nothing,
+    "a link to itself": link_to_itself,
+}

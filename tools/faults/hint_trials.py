@@ -15,7 +15,8 @@ import hint_files
 from hint_damages import BYTES, PLACES, Logs, link_to_nothing
 
 SECONDS = 300
-# How many runs of the program are made at once, and how many of the damages that no check but one of the log sees are tried alone.
+# How many runs of the program are made at once, and how many of the damages that no check but one
+# of the log sees are tried alone.
 AT_ONCE, ALONE = 2, 100
 # One of so many damages is of what is in the place of a hint.
 PLACE = 50
@@ -58,14 +59,20 @@ FOLDERS = {"many sizes": many_sizes, "one size": one_size, "one ledger": one_led
 
 
 class Folder:
-    """A directory that the program wrote, with hints that it made, and what it answers there without hints."""
+    """A directory that the program wrote, with hints that it made, and what it answers there
+    without hints."""
 
     def __init__(self, program, top, name, chance):
         self.program, self.good, self.answers, self.script = program, top / f"good {name}", {}, {}
-        program.must(["script", "--folder", self.good, "--log-limit", LIMIT], "\n".join(FOLDERS[name](chance)) + "\n")
+        program.must(
+            ["script", "--folder", self.good, "--log-limit", LIMIT],
+            "\n".join(FOLDERS[name](chance)) + "\n",
+        )
         self.foreign(chance)
         self.files = {path.name: path.read_bytes() for path in self.good.iterdir()}
-        sealed = {log: data for log, data in self.by_log(".log").items() if hint_files.place_of_map(data)}
+        sealed = {
+            log: data for log, data in self.by_log(".log").items() if hint_files.place_of_map(data)
+        }
         self.logs = Logs(sealed)
         keys = sorted({entry[:2] for entries in self.logs.entries.values() for entry in entries})
         self.keys = [*keys, (1, 99_999), (77, 0)]
@@ -76,21 +83,23 @@ class Folder:
         return {int(name.removesuffix(ending), 16): data for name, data in names.items()}
 
     def foreign(self, chance):
-        """Logs as no bookie writes them: entries out of order, twice, with gaps, and between records that are none."""
+        """Logs as no bookie writes them: entries out of order, twice, with gaps, and between
+        records that are none."""
         next_log = 1 + max(int(path.stem, 16) for path in self.good.glob("*.log"))
         for number in range(next_log, next_log + 12):
             (self.good / f"{number:x}.log").write_bytes(strange_log(chance))
 
     def make_hints(self):
-        """The hints that the program makes. Returns why they are other ones than tools/logs/hint_files.py makes."""
+        """The hints that the program makes. Returns why they are other ones than
+        tools/logs/hint_files.py makes."""
         self.program.must(["hint", self.good])
         made = {path.name: path.read_bytes() for path in self.good.glob("*.hint")}
         wanted = {f"{log:x}.hint": hint for log, hint in self.logs.hints.items()}
         return [name for name in made.keys() | wanted.keys() if made.get(name) != wanted.get(name)]
 
     def calls(self, chance):
-        """A script, which opens a store on the directory, and one of the other commands that read hints: their words before the
-        directory and after it, and their steps."""
+        """A script, which opens a store on the directory, and one of the other commands that read
+        hints: their words before the directory and after it, and their steps."""
         ledger, (of, entry) = str(chance.choice(LEDGERS)), chance.choice(self.keys)
         yield ("script", "--folder"), (), self.steps(chance)
         yield chance.choice(
@@ -107,7 +116,9 @@ class Folder:
         """All ledgers and entry ids of the index, and some entries, or without chance all."""
         listed = "".join(f"last {ledger}\nentries {ledger} 0 100000\n" for ledger in LEDGERS)
         keys = chance.sample(self.keys, min(len(self.keys), READ)) if chance else self.keys
-        return f"ledgers 0 1000\n{listed}" + "".join(f"take 0 {key[0]} {key[1]}\nfetch 0\nrelease 0\n" for key in keys)
+        return f"ledgers 0 1000\n{listed}" + "".join(
+            f"take 0 {key[0]} {key[1]}\nfetch 0\nrelease 0\n" for key in keys
+        )
 
     def answers_to(self, words, steps):
         """What a call answers without hints: the status, and the answer to each step, or all."""
@@ -118,7 +129,8 @@ class Folder:
         return status, out
 
     def usual(self, word, rest, steps):
-        """What a call answers without hints. A script's answers are put together of those to its parts."""
+        """What a call answers without hints. A script's answers are put together of those to its
+        parts."""
         if steps:
             return 0, b"".join(self.script[step] for step in steps_in(steps))
         if (word, rest) not in self.answers:
@@ -156,18 +168,49 @@ def steps_in(steps):
 def strange_log(chance):
     records, sizes = [], collections.Counter()
     for _ in range(chance.randrange(1, 12)):
-        ledger, entry, data = chance.randrange(1, 7), chance.randrange(40), chance.randbytes(chance.randrange(60))
-        record = (len(data) + 16).to_bytes(4, "big") + ledger.to_bytes(8, "big") + entry.to_bytes(8, "big") + data
+        ledger, entry, data = (
+            chance.randrange(1, 7),
+            chance.randrange(40),
+            chance.randbytes(chance.randrange(60)),
+        )
+        record = (
+            (len(data) + 16).to_bytes(4, "big")
+            + ledger.to_bytes(8, "big")
+            + entry.to_bytes(8, "big")
+            + data
+        )
         for _ in range(chance.choice((1, 1, 2))):
             records.append(record)
             sizes[ledger] += len(record)
         if chance.random() < 0.2:
-            records.append((20).to_bytes(4, "big") + (-7).to_bytes(8, "big", signed=True) + chance.randbytes(12))
-    pairs = b"".join(ledger.to_bytes(8, "big") + size.to_bytes(8, "big") for ledger, size in sorted(sizes.items()))
-    batch = (20 + len(pairs)).to_bytes(4, "big") + (-1).to_bytes(8, "big", signed=True) + (-2).to_bytes(8, "big", signed=True)
+            records.append(
+                (20).to_bytes(4, "big")
+                + (-7).to_bytes(8, "big", signed=True)
+                + chance.randbytes(12)
+            )
+    pairs = b"".join(
+        ledger.to_bytes(8, "big") + size.to_bytes(8, "big")
+        for ledger, size in sorted(sizes.items())
+    )
+    batch = (
+        (20 + len(pairs)).to_bytes(4, "big")
+        + (-1).to_bytes(8, "big", signed=True)
+        + (-2).to_bytes(8, "big", signed=True)
+    )
     body = b"".join(records)
-    header = b"BKLO" + (1).to_bytes(4, "big") + (entry_logs.HEADER + len(body)).to_bytes(8, "big") + len(sizes).to_bytes(4, "big")
-    return header.ljust(entry_logs.HEADER, b"\0") + body + batch + len(sizes).to_bytes(4, "big") + pairs
+    header = (
+        b"BKLO"
+        + (1).to_bytes(4, "big")
+        + (entry_logs.HEADER + len(body)).to_bytes(8, "big")
+        + len(sizes).to_bytes(4, "big")
+    )
+    return (
+        header.ljust(entry_logs.HEADER, b"\0")
+        + body
+        + batch
+        + len(sizes).to_bytes(4, "big")
+        + pairs
+    )
 
 
 class Program:
@@ -177,7 +220,12 @@ class Program:
     def call(self, words, steps=""):
         """Status, answer and notes of a call; without a status it hung."""
         try:
-            ran = subprocess.run([self.path, *map(str, words)], input=steps.encode(), capture_output=True, timeout=SECONDS)
+            ran = subprocess.run(
+                [self.path, *map(str, words)],
+                input=steps.encode(),
+                capture_output=True,
+                timeout=SECONDS,
+            )
         except subprocess.TimeoutExpired:
             return None, b"", ""
         return ran.returncode, ran.stdout, ran.stderr.decode(errors="replace")
@@ -185,7 +233,10 @@ class Program:
     def must(self, words, steps=""):
         status, out, told = self.call(words, steps)
         if status != 0 or b"fault" in out:
-            raise SystemExit(f"dev faults: {' '.join(map(str, words))}: status {status}, {told[-300:]} {out[-300:]}")
+            raise SystemExit(
+                f"dev faults: {' '.join(map(str, words))}: status {status}, {told[-300:]} "
+                f"{out[-300:]}"
+            )
 
 
 class Round:
@@ -194,8 +245,8 @@ class Round:
     def __init__(self, folder, chance):
         self.folder, self.chance = folder, chance
         self.hints, self.outcomes = {}, collections.Counter()
-        # Why a hint is refused, None for any reason; hints of which a note may be missing; hints that are used though the log
-        # has other entries, which stay out of the directory.
+        # Why a hint is refused, None for any reason; hints of which a note may be missing; hints
+        # that are used though the log has other entries, which stay out of the directory.
         self.refused, self.may, self.through = {}, set(), []
         for log in folder.logs.hints:
             self.damage(log)
@@ -228,7 +279,10 @@ class Round:
             status, out, told = self.folder.program.call([*word, place, *rest], steps)
             title = " ".join((*word, *rest))
             if (status, out) != self.folder.usual(word, rest, steps):
-                yield f"{title}: another answer than without hints: status {status}, {out[-200:]} {told[-200:]}"
+                yield (
+                    f"{title}: another answer than without hints: status {status}, {out[-200:]} "
+                    f"{told[-200:]}"
+                )
             yield from (f"{title}: {why}" for why in self.wrong_notes(told))
         for name, data in self.folder.files.items():
             if name.endswith(".log") and (place / name).read_bytes() != data:
@@ -242,16 +296,22 @@ class Round:
             yield f"no note on a hint: log {log}, {self.refused[log]}: {self.hints[log]}"
         for log in self.refused.keys() & notes.keys():
             if self.refused[log] not in (None, notes[log]):
-                yield f"another reason: {notes[log]}, not {self.refused[log]}: log {log}, {self.hints[log]}"
+                yield (
+                    f"another reason: {notes[log]}, not {self.refused[log]}: log {log}, "
+                    f"{self.hints[log]}"
+                )
 
 
 class Trials:
-    """Damages of all kinds: how many of each were refused, right, or seen by no check but one of the log's records."""
+    """Damages of all kinds: how many of each were refused, right, or seen by no check but one of
+    the log's records."""
 
     def __init__(self, program, top, seed):
         self.top, self.seed = top, seed
         self.counts, self.texts = collections.Counter(), collections.Counter()
-        self.folders = [Folder(program, top, name, random.Random(f"{seed} {name}")) for name in FOLDERS]
+        self.folders = [
+            Folder(program, top, name, random.Random(f"{seed} {name}")) for name in FOLDERS
+        ]
         self.through = []
 
     def find(self, why):
@@ -276,7 +336,9 @@ class Trials:
         """Makes at least so many damages."""
         for folder in self.folders:
             for name in folder.make_hints():
-                self.find(f"{name} is not as tools/logs/hint_files.py makes it, or one of both is missing")
+                self.find(
+                    f"{name} is not as tools/logs/hint_files.py makes it, or one of both is missing"
+                )
         each = sum(len(folder.logs.hints) for folder in self.folders) / len(self.folders)
         with ThreadPoolExecutor(AT_ONCE) as pool:
             for made, found in pool.map(self.round, range(int(wanted / each) + 1)):
@@ -287,12 +349,18 @@ class Trials:
                 self.tell_progress(len(made.hints))
 
     def tell_progress(self, more):
-        """Tells on the error stream how far it is, each time that it has made some thousand damages."""
+        """Tells on the error stream how far it is, each time that it has made some thousand
+        damages."""
         if self.damages() // STRIDE > (self.damages() - more) // STRIDE:
-            print(f"{self.damages():,} damages, {sum(self.texts.values())} findings", file=sys.stderr, flush=True)
+            print(
+                f"{self.damages():,} damages, {sum(self.texts.values())} findings",
+                file=sys.stderr,
+                flush=True,
+            )
 
     def batches(self):
-        """The hints that fit all but the records of their logs, by folder, one for a log in each batch."""
+        """The hints that fit all but the records of their logs, by folder, one for a log in each
+        batch."""
         for folder in self.folders:
             by_log = collections.defaultdict(list)
             for kind, of, log, hint in self.through:
@@ -310,10 +378,13 @@ class Trials:
         return batch, {int(log) for log, _ in NOTE.findall(told)}, folder
 
     def show_through(self):
-        """Of the hints that fit all but the records of their logs: how many are refused, and what those that are not change."""
+        """Of the hints that fit all but the records of their logs: how many are refused, and what
+        those that are not change."""
         refused, used = collections.Counter(), []
         with ThreadPoolExecutor(AT_ONCE) as pool:
-            for batch, noted, folder in pool.map(lambda it: self.noted(it[0], *it[1]), enumerate(self.batches())):
+            for batch, noted, folder in pool.map(
+                lambda it: self.noted(it[0], *it[1]), enumerate(self.batches())
+            ):
                 for log, (kind, hint) in batch.items():
                     if log in noted:
                         refused[kind] += 1
@@ -321,11 +392,18 @@ class Trials:
                         used.append((kind, folder, log, hint))
             used.sort(key=lambda it: it[0])
             sample = used[:: max(1, len(used) // min(ALONE, 10 + len(used) // 20))]
-            changes = collections.Counter(pool.map(self.alone, range(len(sample)), *zip(*sample)) if sample else ())
+            changes = collections.Counter(
+                pool.map(self.alone, range(len(sample)), *zip(*sample)) if sample else ()
+            )
         by_kind = collections.Counter(kind for kind, *_ in used)
         for kind in sorted(refused.keys() | by_kind.keys()):
-            told = ", ".join(f"{what} {number}" for (of, what), number in sorted(changes.items()) if of == kind)
-            print(f"{kind}, fits all but the records: {refused[kind]:,} refused, {by_kind[kind]:,} used; of these alone: {told or '-'}")
+            told = ", ".join(
+                f"{what} {number}" for (of, what), number in sorted(changes.items()) if of == kind
+            )
+            print(
+                f"{kind}, fits all but the records: {refused[kind]:,} refused, {by_kind[kind]:,} "
+                f"used; of these alone: {told or '-'}"
+            )
         return len(used)
 
     def alone(self, number, kind, folder, log, hint):
@@ -345,7 +423,10 @@ class Trials:
     def show(self):
         kinds = sorted({kind for kind, _ in self.counts})
         for kind in kinds:
-            print(f"{self.counts[kind, REFUSED]:7,} {kind}: refused, {self.counts[kind, RIGHT]:,} right in this form too")
+            print(
+                f"{self.counts[kind, REFUSED]:7,} {kind}: refused, {self.counts[kind, RIGHT]:,} "
+                "right in this form too"
+            )
 
 
 def run(path, top, wanted, seed):
@@ -357,7 +438,8 @@ def run(path, top, wanted, seed):
     right = sum(count for (_, outcome), count in trials.counts.items() if outcome == RIGHT)
     findings = sum(trials.texts.values())
     print(
-        f"{trials.damages():,} damaged hints, {trials.damages() - right - used:,} refused, {right:,} that list what the log has, "
+        f"{trials.damages():,} damaged hints, {trials.damages() - right - used:,} refused, "
+        f"{right:,} that list what the log has, "
         f"{used:,} used though it has others, {findings} findings"
     )
     return 1 if findings else 0

@@ -42,21 +42,26 @@ def commands(folder, log, has_load):
 
 
 def snapshot(top):
-    """What is below a folder: kind, rights, and the bytes or where a link leads; a lock file's number is left out."""
+    """What is below a folder: kind, rights, and the bytes or where a link leads; a lock file's
+    number is left out."""
     found = {}
     for path in [top, *top.rglob("*")] if os.path.lexists(top) else []:
         it = path.lstat()
         if stat.S_ISLNK(it.st_mode):
             held = os.readlink(path)
         elif stat.S_ISREG(it.st_mode):
-            held = it.st_size, hashlib.sha256(path.read_bytes()).hexdigest() if it.st_size < 1 << 24 else None
+            held = (
+                it.st_size,
+                hashlib.sha256(path.read_bytes()).hexdigest() if it.st_size < 1 << 24 else None,
+            )
         else:
             held = None
         found[str(path.relative_to(top))] = (stat.S_IFMT(it.st_mode), it.st_mode & 0o7777, held)
     return found
 
 
-# ---- the directories: each changes a copy of a good one, beside which is a folder `outside` with a good log
+# ---- the directories: each changes a copy of a good one, beside which is a folder `outside` with a
+# good log
 
 
 def link(target):
@@ -80,7 +85,10 @@ def make_folder(folder):
 
 def named(*names):
     """Files that have the bytes of a log, and names that are no log's."""
-    return lambda folder: [Path(os.fsdecode(os.path.join(os.fsencode(folder), name))).write_bytes(SMALL) for name in names]
+    return lambda folder: [
+        Path(os.fsdecode(os.path.join(os.fsencode(folder), name))).write_bytes(SMALL)
+        for name in names
+    ]
 
 
 def many(data):
@@ -220,7 +228,9 @@ class Hostile:
         shutil.copy(program, self.program)
         self.good, self.folder, self.outside = top / "good", top / "logs", top / "outside"
         self.calls, self.found = 0, 0
-        steps = "".join(f"add {ledger} {entry} data{entry}\n" for ledger in (1, 2, 3) for entry in range(9))
+        steps = "".join(
+            f"add {ledger} {entry} data{entry}\n" for ledger in (1, 2, 3) for entry in range(9)
+        )
         steps += "swap\n" + 27 * "write\n" + "publish\nroll\n"
         self.call(["script", "--folder", self.good, "--log-limit", "2048"], steps)
         self.entries = entry_logs.last_records(entry_logs.read_folder(self.good))
@@ -274,13 +284,17 @@ class Hostile:
         if ran.returncode not in (0, 1, 2):
             found.append(f"status {ran.returncode}: {told[-150:]}")
         if ran.returncode and not self.is_told(told, ran.stdout):
-            found.append(f"status {ran.returncode} without a name: {told[-150:]!r} {ran.stdout[-80:]!r}")
+            found.append(
+                f"status {ran.returncode} without a name: {told[-150:]!r} {ran.stdout[-80:]!r}"
+            )
         # A file outside that is also a log of the folder may change as the log does.
         names = list(self.folder.glob("*.log")) if self.folder.is_dir() else []
         logs = {path.stat().st_ino for path in names if not path.is_symlink() and path.is_file()}
         same = {path.name for path in self.outside.iterdir() if path.stat().st_ino in logs}
         outside = snapshot(self.outside)
-        differ = self.difference(*({it: held[it] for it in held if it not in same} for held in (before[1], outside)))
+        differ = self.difference(
+            *({it: held[it] for it in held if it not in same} for held in (before[1], outside))
+        )
         if differ:
             found.append(f"changes files outside: {differ}")
         after = snapshot(self.folder)
@@ -292,17 +306,26 @@ class Hostile:
 
     @staticmethod
     def is_told(told, out):
-        """Whether a report names what is wrong: a file, a log, a folder or another reason than the word disk alone."""
-        lines = [line for line in (told + "\n" + out).splitlines() if "fault" in line or "error" in line]
-        return any(line.strip() not in ("fault disk", "fault odd disk", '{"fault":"disk"}') for line in lines)
+        """Whether a report names what is wrong: a file, a log, a folder or another reason than the
+        word disk alone."""
+        lines = [
+            line for line in (told + "\n" + out).splitlines() if "fault" in line or "error" in line
+        ]
+        return any(
+            line.strip() not in ("fault disk", "fault odd disk", '{"fault":"disk"}')
+            for line in lines
+        )
 
     @staticmethod
     def difference(before, after):
-        differ = [name for name in before.keys() | after.keys() if before.get(name) != after.get(name)]
+        differ = [
+            name for name in before.keys() | after.keys() if before.get(name) != after.get(name)
+        ]
         return ", ".join(sorted(differ)[:4])
 
     def written(self, words, before, after):
-        """What a command that writes did beyond that: to files that are no logs, or to entries of ledgers that live."""
+        """What a command that writes did beyond that: to files that are no logs, or to entries of
+        ledgers that live."""
         found = []
         own = ("writer.lock", "ledgers.manifest", entry_logs.MANIFEST, ".")
         for name, it in before.items():
@@ -317,7 +340,11 @@ class Hostile:
         dead = {2} if words[0] == "compact" else set()
         subprocess.run(["chmod", "-R", "u+rwX", self.folder], check=True)
         left = entry_logs.last_records(entry_logs.read_folder(self.folder))
-        lost = [key for key, data in self.entries.items() if key[0] not in dead and left.get(key) != data]
+        lost = [
+            key
+            for key, data in self.entries.items()
+            if key[0] not in dead and left.get(key) != data
+        ]
         return found + ([f"loses {len(lost)} entries, such as {lost[0]}"] if lost else [])
 
 

@@ -92,7 +92,9 @@ def in_zsh(table):
     cases = []
     for it in table[:-1]:
         options = " \\\n            ".join(map(for_zsh, options_of(it)))
-        cases.append(f"        {it.name})\n            _arguments {options} '*:file:_files'\n            ;;")
+        cases.append(
+            f"        {it.name})\n            _arguments {options} '*:file:_files'\n            ;;"
+        )
     general = " \\\n        ".join(map(for_zsh, GENERAL))
     return f"""#compdef bookie
 # {MADE}

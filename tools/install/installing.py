@@ -1,8 +1,8 @@
 """Installs the programs, their pages and the clients below a directory, or packs them.
 
-An installation is a tree of files below a prefix that names no place of its own, but for the unit of
-systemd. It has a list of its files with their SHA-256, by which the next one removes what it does
-not have any more.
+An installation is a tree of files below a prefix that names no place of its own, but for the unit
+of systemd. It has a list of its files with their SHA-256, by which the next one removes what it
+does not have any more.
 """
 
 import gzip
@@ -73,7 +73,9 @@ def stage_programs(top, root, programs):
     write(root / "libexec" / "bookie" / "programs", made)
     if not shutil.which("rustc"):
         return note("no daemon, since there is no rustc")
-    told = subprocess.run([top / "tools" / "daemon" / "build"], stdout=subprocess.PIPE, text=True, check=True)
+    told = subprocess.run(
+        [top / "tools" / "daemon" / "build"], stdout=subprocess.PIPE, text=True, check=True
+    )
     copy(told.stdout.strip(), root / "libexec" / "bookie" / "bookie-daemon", 0o755)
 
 
@@ -81,12 +83,25 @@ def stage_library(root):
     """Puts the client in C, as a static library, into a tree."""
     compiler, archiver = shutil.which("cc") or shutil.which("gcc"), shutil.which("ar")
     if not compiler or not archiver:
-        return note("no library for C, since there is no C compiler; its source is in share/bookie/c")
+        return note(
+            "no library for C, since there is no C compiler; its source is in share/bookie/c"
+        )
     with tempfile.TemporaryDirectory() as room:
-        words = [compiler, "-std=c11", "-O2", "-fPIC", f"-I{root / 'include'}", "-c", "-o", f"{room}/bookie.o"]
+        words = [
+            compiler,
+            "-std=c11",
+            "-O2",
+            "-fPIC",
+            f"-I{root / 'include'}",
+            "-c",
+            "-o",
+            f"{room}/bookie.o",
+        ]
         subprocess.run([*words, root / "share" / "bookie" / "c" / "bookie.c"], check=True)
         (root / "lib").mkdir(exist_ok=True)
-        subprocess.run([archiver, "rcsD", root / "lib" / "libbookie.a", f"{room}/bookie.o"], check=True)
+        subprocess.run(
+            [archiver, "rcsD", root / "lib" / "libbookie.a", f"{room}/bookie.o"], check=True
+        )
 
 
 def stage(top, root, prefix, programs):

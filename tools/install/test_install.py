@@ -1,12 +1,13 @@
 #!/usr/bin/env python3
-"""Tests an installation and an archive: tools/install/test_install.py [--shell PATH] [--serve PATH] [NAME..]
+"""Tests an installation and an archive: tools/install/test_install.py [--shell PATH] [--serve PATH]
+[NAME..]
 
 Installs below a temporary directory, and uses what is there from another one, where the repository
-cannot be seen if this may hide it. The programs are those of the present sources, proved or compiled,
-that are there, or the given ones; else a stand-in, and bindings/model.py as the server.
+cannot be seen if this may hide it. The programs are those of the present sources, proved or
+compiled, that are there, or the given ones; else a stand-in, and bindings/model.py as the server.
 
-NAME is a test, as Clients.test_c. A test whose compiler is not present is skipped, and named. The last
-line is `N of M tests agree`; the status is 0 if all do.
+NAME is a test, as Clients.test_c. A test whose compiler is not present is skipped, and named. The
+last line is `N of M tests agree`; the status is 0 if all do.
 """
 
 import argparse
@@ -31,7 +32,7 @@ import commands  # noqa: E402
 import unproved  # noqa: E402
 
 LIMIT = 120
-STAND_IN = "#!/bin/sh\necho stand-in {name} \"$@\"\n"
+STAND_IN = '#!/bin/sh\necho stand-in {name} "$@"\n'
 # A run of the toolchain writes down that it was called.
 RT = '#!/bin/sh\necho "$@" >> "$CALLS"\nexit 1\n'
 BARE = "/usr/local/bin:/usr/bin:/bin"
@@ -98,11 +99,21 @@ def run(words, status=0, cwd=None, env=None, steps="", hidden=False):
     words = [str(it) for it in words]
     if hidden and Given.hides:
         # The repository is an empty directory for it.
-        words = ["unshare", "-m", "sh", "-c", f'mount -t tmpfs none "{TOP}" && exec "$@"', "sh", *words]
+        words = [
+            "unshare",
+            "-m",
+            "sh",
+            "-c",
+            f'mount -t tmpfs none "{TOP}" && exec "$@"',
+            "sh",
+            *words,
+        ]
     how = {"cwd": cwd or Given.room, "env": {"HOME": str(Given.room), "PATH": BARE, **(env or {})}}
     ran = subprocess.run(words, input=steps, capture_output=True, text=True, timeout=LIMIT, **how)
     if ran.returncode != status:
-        raise AssertionError(f"{' '.join(words)}: status {ran.returncode}\n{ran.stdout}{ran.stderr}")
+        raise AssertionError(
+            f"{' '.join(words)}: status {ran.returncode}\n{ran.stdout}{ran.stderr}"
+        )
     return ran.stdout, ran.stderr
 
 
@@ -149,11 +160,17 @@ class Programs(Case):
         return run([path, *words], status, self.room, env, steps, hidden=True)
 
     def test_help_and_version(self):
-        """Help and version are those of the page, of each program, and each says how it was made."""
+        """Help and version are those of the page, of each program, and each says how it was
+        made."""
         version, logic = commands.version()
         made = (Given.prefix / "libexec" / "bookie" / "programs").read_text().splitlines()
         how = {name: text for name, _, text in (it.partition(" ") for it in made)}
-        crates = {"": "bk_shell", "serve": "bk_serve", "daemon": "bk_serve", "simulate": "bk_simulate"}
+        crates = {
+            "": "bk_shell",
+            "serve": "bk_serve",
+            "daemon": "bk_serve",
+            "simulate": "bk_simulate",
+        }
         for word, crate in crates.items():
             words = [word] if word else []
             wanted = f"{version}\n{logic}\n{how[crate]}\n"
@@ -177,8 +194,15 @@ class Programs(Case):
     def test_serve_and_simulate(self):
         """`serve` and `simulate` run their programs with the words after the command."""
         if "bk_simulate" in Given.stand_ins:
-            self.assertEqual(self.bookie("simulate", "--days", "1")[0], "stand-in bk_simulate --days 1\n")
-        self.write("use.py", PYTHON.replace("[sys.argv[1], ", "[sys.argv[1].replace('bk_serve', 'bookie'), 'serve', "))
+            self.assertEqual(
+                self.bookie("simulate", "--days", "1")[0], "stand-in bk_simulate --days 1\n"
+            )
+        self.write(
+            "use.py",
+            PYTHON.replace(
+                "[sys.argv[1], ", "[sys.argv[1].replace('bk_serve', 'bookie'), 'serve', "
+            ),
+        )
         env = {"PYTHONPATH": str(Given.prefix / "share" / "bookie" / "python")}
         self.assertEqual(self.used(sys.executable, self.room / "use.py", env=env), "hello\n")
 
@@ -198,10 +222,18 @@ class Programs(Case):
         copy = self.copy()
         self.bookie("help", "check", prefix=copy, env=env)
         self.bookie("check", self.room, prefix=copy, env=env)
-        for name, word in (("bk_shell", "check"), ("bk_serve", "serve"), ("bk_simulate", "simulate")):
+        for name, word in (
+            ("bk_shell", "check"),
+            ("bk_serve", "serve"),
+            ("bk_simulate", "simulate"),
+        ):
             (copy / "libexec" / "bookie" / name).unlink()
             _, errors = self.bookie(word, "logs", status=1, prefix=copy, env=env)
-            self.assertEqual(errors, f"bookie: {copy}/libexec/bookie/{name} is not there; this installation is not whole\n")
+            self.assertEqual(
+                errors,
+                f"bookie: {copy}/libexec/bookie/{name} is not there; this installation is not "
+                "whole\n",
+            )
         self.assertFalse((self.room / "calls").exists())
 
     def test_places(self):
@@ -231,7 +263,10 @@ class Files(Case):
     def test_sums(self):
         """The list has each file, with its digest."""
         copy = self.copy()
-        listed = {it.partition("  ")[2] for it in (copy / "share/bookie/SHA256SUMS").read_text().splitlines()}
+        listed = {
+            it.partition("  ")[2]
+            for it in (copy / "share/bookie/SHA256SUMS").read_text().splitlines()
+        }
         there = {str(it.relative_to(copy)) for it in copy.rglob("*") if not it.is_dir()}
         self.assertEqual(there - listed, {"share/bookie/SHA256SUMS"})
         self.assertEqual(listed - there, set())
@@ -253,13 +288,19 @@ class Files(Case):
         """All packages have the version of the programs."""
         version = commands.version()[0].split()[1]
         places = {"share/bookie/python/pyproject.toml": 'version = "{}"'}
-        places |= {"share/bookie/rust/Cargo.toml": 'version = "{}"', "lib/pkgconfig/bookie.pc": "Version: {}"}
+        places |= {
+            "share/bookie/rust/Cargo.toml": 'version = "{}"',
+            "lib/pkgconfig/bookie.pc": "Version: {}",
+        }
         places["share/bookie/java/pom.xml"] = "  <version>{}</version>"
         for place, line in places.items():
-            self.assertIn(line.format(version), (Given.prefix / place).read_text().splitlines(), place)
+            self.assertIn(
+                line.format(version), (Given.prefix / place).read_text().splitlines(), place
+            )
 
     def test_upgrade(self):
-        """An upgrade replaces files at once, removes what it has no more, and keeps what others put there."""
+        """An upgrade replaces files at once, removes what it has no more, and keeps what others put
+        there."""
         copy = self.copy()
         names = {it: self.write(f"copy/share/bookie/{it}", "x") for it in ("earlier", "foreign")}
         with open(copy / "share/bookie/SHA256SUMS", "a") as file:
@@ -283,17 +324,27 @@ class Files(Case):
 
     def test_refusals(self):
         """Wrong words end with status 2, and nothing is installed in the repository."""
-        for words in (["--jobs", "0"], ["--program", "bk_shell=/dev/null", "--install", "x"], ["--unproved"], ["x"]):
+        for words in (
+            ["--jobs", "0"],
+            ["--program", "bk_shell=/dev/null", "--install", "x"],
+            ["--unproved"],
+            ["x"],
+        ):
             build(*words, status=2)
         _, errors = build(*Given.words, "--install", TOP / "out" / "x", status=1)
         self.assertIn("it is in the repository", errors)
 
     def test_archive(self):
-        """An archive has its SHA-256 beside it, is the same each time, and runs where it is unpacked."""
+        """An archive has its SHA-256 beside it, is the same each time, and runs where it is
+        unpacked."""
         first, second = self.room / "first", self.room / "second"
         stands = self.write("stands", STAND_IN.format(name="bk_shell"))
         stands.chmod(0o755)
-        words = [it for name in ("bk_shell", "bk_serve", "bk_simulate") for it in ("--program", f"{name}={stands}")]
+        words = [
+            it
+            for name in ("bk_shell", "bk_serve", "bk_simulate")
+            for it in ("--program", f"{name}={stands}")
+        ]
         for folder in (first, second):
             build(*words, "--archive", folder)
         name = next(first.glob("*.tar.gz")).name
@@ -329,14 +380,18 @@ class Completion(Case):
 
     def completed(self, *words):
         script = f'. "{Given.prefix / self.BASH}"; compopt() {{ :; }}; COMP_WORDS=("$@"); COMP_CWORD=$(($# - 1))'
-        return run(["bash", "-c", f'{script}; _bookie; printf "%s\\n" "${{COMPREPLY[@]}}"', "bash", *words])[0].split()
+        return run(
+            ["bash", "-c", f'{script}; _bookie; printf "%s\\n" "${{COMPREPLY[@]}}"', "bash", *words]
+        )[0].split()
 
     def test_bash(self):
         run(["bash", "-n", Given.prefix / self.BASH])
         self.assertEqual(self.completed("bookie", "che"), ["check"])
         self.assertEqual(self.completed("bookie", "help", "sim"), ["simulate"])
         self.assertEqual(self.completed("bookie", "check", "--d"), ["--digest"])
-        self.assertEqual(self.completed("bookie", "--json", "check", "--digest", "crc"), ["crc32c", "crc32"])
+        self.assertEqual(
+            self.completed("bookie", "--json", "check", "--digest", "crc"), ["crc32c", "crc32"]
+        )
         self.assertEqual(self.completed("bookie", "check", "DI"), [])
         self.assertIn("--compact", self.completed("bookie", "serve", "logs", "--"))
 
@@ -344,7 +399,10 @@ class Completion(Case):
     def test_zsh(self):
         run(["zsh", "-n", Given.prefix / self.ZSH])
         folder = (Given.prefix / self.ZSH).parent
-        script = f"fpath=({folder} $fpath); autoload -Uz compinit; compinit -u -d {self.room}/dump; print $_comps[bookie]"
+        script = (
+            f"fpath=({folder} $fpath); autoload -Uz compinit; compinit -u -d {self.room}/dump; "
+            "print $_comps[bookie]"
+        )
         self.assertEqual(run(["zsh", "-f", "-c", script])[0], "_bookie\n")
 
     @needs("fish")
@@ -353,7 +411,10 @@ class Completion(Case):
 
         def completed(line):
             script = f"source {Given.prefix / self.FISH}; complete -C '{line}'"
-            return [it.partition("\t")[0] for it in run(["fish", "--no-config", "-c", script])[0].splitlines()]
+            return [
+                it.partition("\t")[0]
+                for it in run(["fish", "--no-config", "-c", script])[0].splitlines()
+            ]
 
         self.assertEqual(completed("bookie che"), ["check"])
         self.assertIn("--digest", completed("bookie check --d"))
@@ -377,11 +438,16 @@ class Clients(Case):
         """A program depends on the package by its path."""
         self.copy("share/bookie/rust")
         dependence = '[dependencies]\nbookie = { path = "../copy" }\n'
-        self.write("use/Cargo.toml", f'[package]\nname = "use-bookie"\nversion = "1.0.0"\nedition = "2021"\n\n{dependence}')
+        self.write(
+            "use/Cargo.toml",
+            f'[package]\nname = "use-bookie"\nversion = "1.0.0"\nedition = "2021"\n\n{dependence}',
+        )
         self.write("use/src/main.rs", RUST)
         env = {"PATH": os.environ["PATH"], "HOME": os.environ["HOME"]}
         run(["cargo", "build", "--offline", "-q"], cwd=self.room / "use", env=env)
-        self.assertEqual(self.used(self.room / "use" / "target" / "debug" / "use-bookie"), "accepted\n")
+        self.assertEqual(
+            self.used(self.room / "use" / "target" / "debug" / "use-bookie"), "accepted\n"
+        )
 
     @needs("gcc", "pkg-config")
     def test_c(self):
@@ -395,7 +461,8 @@ class Clients(Case):
 
     @needs("javac")
     def test_java(self):
-        """Maven makes a package if it has its plugins; else javac compiles the files that it would."""
+        """Maven makes a package if it has its plugins; else javac compiles the files that it
+        would."""
         copy, source = self.copy("share/bookie/java"), self.write("Use.java", JAVA)
         env, made = {"PATH": os.environ["PATH"], "HOME": os.environ["HOME"]}, self.room / "made"
         plugins = Path.home() / ".m2" / "repository" / "org" / "apache" / "maven" / "plugins"
@@ -445,7 +512,9 @@ def programs_of(asked, room):
 def can_hide():
     """Returns whether this may hide the repository from a command."""
     words = ["unshare", "-m", "sh", "-c", f'mount -t tmpfs none "{TOP}" && test ! -e "{TOP}/dev"']
-    return bool(shutil.which("unshare")) and subprocess.run(words, capture_output=True).returncode == 0
+    return (
+        bool(shutil.which("unshare")) and subprocess.run(words, capture_output=True).returncode == 0
+    )
 
 
 def run_suite(suite):

@@ -1,4 +1,5 @@
-"""What the kills of ./dev kills share: calls of the program, entries, what stands in a directory."""
+"""What the kills of ./dev kills share: calls of the program, entries, what stands in a
+directory."""
 
 import subprocess
 import sys
@@ -27,7 +28,9 @@ class Program:
 
     def call(self, words, steps="", **how):
         """Runs it to its end. Returns status, output and error output."""
-        run = subprocess.run([self.path, *words], input=steps, capture_output=True, text=True, **how)
+        run = subprocess.run(
+            [self.path, *words], input=steps, capture_output=True, text=True, **how
+        )
         return run.returncode, run.stdout, run.stderr
 
     def must(self, words, steps=""):
@@ -44,7 +47,10 @@ class Program:
         given.seek(0)
         with given:
             return subprocess.Popen(
-                [self.path, *words], stdin=given, stdout=subprocess.DEVNULL, stderr=subprocess.DEVNULL
+                [self.path, *words],
+                stdin=given,
+                stdout=subprocess.DEVNULL,
+                stderr=subprocess.DEVNULL,
             )
 
 
@@ -98,7 +104,8 @@ def read(program, folder, keys, dead=()):
 
 
 def ending(entries):
-    """Returns the steps that delete and fence ledgers, with flushes of these entries between them."""
+    """Returns the steps that delete and fence ledgers, with flushes of these entries between
+    them."""
     keys = list(entries)
     each = len(keys) // len(KILLED)
     steps = ""
@@ -114,7 +121,9 @@ def standing(program, folder):
     lines = [asked[verb].format(ledger) for verb, ledger in (*BEFORE, *KILLED)]
     output = program.must(script_words(folder), "\n".join(lines) + "\n").split()
     stands = {"delete": "no", "fence": "yes"}
-    return [answer == stands[verb] for answer, (verb, _) in zip(output, (*BEFORE, *KILLED), strict=True)]
+    return [
+        answer == stands[verb] for answer, (verb, _) in zip(output, (*BEFORE, *KILLED), strict=True)
+    ]
 
 
 def wrong_standing(found, earlier=None):
@@ -140,10 +149,16 @@ def differences(program, folder, published, unsure, dead):
     for key, data in published.items():
         wanted = None if key[0] in dead else data
         if found[key] != wanted:
-            print(f"entry {key[1]} of ledger {key[0]}: wanted {wanted!r:.40}, found {found[key]!r:.60}")
+            print(
+                f"entry {key[1]} of ledger {key[0]}: wanted {wanted!r:.40}, found "
+                f"{found[key]!r:.60}"
+            )
             count += 1
     for key, data in unsure.items():
         if found[key] not in (None, data):
-            print(f"entry {key[1]} of ledger {key[0]}: wanted {data!r:.40} or nothing, found {found[key]!r:.60}")
+            print(
+                f"entry {key[1]} of ledger {key[0]}: wanted {data!r:.40} or nothing, found "
+                f"{found[key]!r:.60}"
+            )
             count += 1
     return count

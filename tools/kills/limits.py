@@ -1,4 +1,5 @@
-"""What a program does at a limit of files, on a full disk, and without permission: for ./dev kills --limits."""
+"""What a program does at a limit of files, on a full disk, and without permission: for ./dev kills
+--limits."""
 
 import os
 import resource
@@ -30,7 +31,8 @@ def small_files():
 
 
 class Shell:
-    """The shell: `add` and `read` return `published`, the content, or what is said in their place."""
+    """The shell: `add` and `read` return `published`, the content, or what is said in their
+    place."""
 
     name = "bk_shell"
     # What an entry that is not written answers, and how an opening begins that is refused.
@@ -48,7 +50,9 @@ class Shell:
         answers = output.splitlines()
         if status == 0 and answers == ["accepted", "swapped 1", self.refusal, "not all written"]:
             return self.refusal
-        return "published" if status == 0 and answers[-1] == "published 1" else told.strip() or output
+        return (
+            "published" if status == 0 and answers[-1] == "published 1" else told.strip() or output
+        )
 
     def read(self, folder, entry):
         found = read(self.program, folder, [(1, entry)])[1, entry]
@@ -69,7 +73,9 @@ class Server:
 
     def session(self, folder, **how):
         """Opens the directory. Returns the session, or the name of the refusal."""
-        return serve_faults.answer_of(bookie.Bookie, [self.path, str(folder)], stderr=subprocess.DEVNULL, **how)
+        return serve_faults.answer_of(
+            bookie.Bookie, [self.path, str(folder)], stderr=subprocess.DEVNULL, **how
+        )
 
     def add(self, folder, entry, content, **how):
         session = self.session(folder, **how)
@@ -78,7 +84,13 @@ class Server:
         session.add(1, entry, content.encode())
         flushed = serve_faults.answer_of(session.flush)
         closed = serve_faults.answer_of(session.close)
-        return "published" if flushed == 1 and closed == 0 else flushed if flushed == closed else f"{flushed}, {closed}"
+        return (
+            "published"
+            if flushed == 1 and closed == 0
+            else flushed
+            if flushed == closed
+            else f"{flushed}, {closed}"
+        )
 
     def read(self, folder, entry):
         session = self.session(folder)
@@ -115,7 +127,10 @@ def limit_disk(it, shell, folder):
     try:
         logs = folder / "logs"
         it.add(logs, 0, HELD)
-        count = expect(f"{it.name}, a full file system is `{it.refusal}`", it.add(logs, 1, "x" * BIG) == it.refusal)
+        count = expect(
+            f"{it.name}, a full file system is `{it.refusal}`",
+            it.add(logs, 1, "x" * BIG) == it.refusal,
+        )
         count += expect("  and reading commands find what was published", is_found(shell, logs))
         found = it.read(logs, 0)
         how = "finds it" if found == HELD else "is refused with a named fault"
@@ -145,7 +160,10 @@ def limit_rights(it, shell, room):
         is_named = status == 1 and output == "" and told.startswith(it.fault) and DENIED in told
         count += expect("  by a compaction too", is_named)
     status, output, _ = Program(reader).call(["find", str(folder), "1", "0"], **nobody)
-    return count + expect("  and what may be read is read", status == 0 and output.split()[-1:] == [HELD.encode().hex()])
+    return count + expect(
+        "  and what may be read is read",
+        status == 0 and output.split()[-1:] == [HELD.encode().hex()],
+    )
 
 
 def run(program, server, room):

@@ -1,4 +1,5 @@
-"""Reads a directory of entry logs as docs/format.md describes them, beside the program: for ./dev faults."""
+"""Reads a directory of entry logs as docs/format.md describes them, beside the program: for ./dev
+faults."""
 
 import os
 import re
@@ -9,7 +10,8 @@ SHORTEST = 16
 # A log's name: its id in hexadecimal.
 NAME = re.compile(r"(0|[1-9a-f][0-9a-f]{0,7})\.log")
 LAST_LOG = 0x7FFFFFFF
-# The files of durable lengths and of ledgers, their header, and what is around the body of a batch: size and two checksums.
+# The files of durable lengths and of ledgers, their header, and what is around the body of a batch:
+# size and two checksums.
 MANIFEST, LEDGERS, MANIFEST_HEADER, BATCH = "logs.manifest", "ledgers.manifest", 24, 12
 # Sizes of records, by kind: a log is made, durable, removed; a ledger is deleted, fenced.
 SIZES = {1: 5, 2: 13, 3: 13, 4: 9, 5: 9}
@@ -28,7 +30,8 @@ def log_of(name):
 
 
 def manifest_records(data):
-    """Yields the records of a manifest, up to one of another kind; its checksums are not compared."""
+    """Yields the records of a manifest, up to one of another kind; its checksums are not
+    compared."""
     at = MANIFEST_HEADER
     while at + BATCH <= len(data):
         size = number(data, at, 4)
@@ -56,7 +59,8 @@ def deleted_ledgers(data):
 
 
 class Log:
-    """The records of a log: position of the payload, ledger, entry and data of each entry, and how it ends."""
+    """The records of a log: position of the payload, ledger, entry and data of each entry, and how
+    it ends."""
 
     def __init__(self, data):
         self.data, self.entries, self.foreign = data, [], 0
@@ -79,7 +83,8 @@ class Log:
 
 
 def read_folder(path):
-    """The logs of a directory, by id, each up to its durable bytes if the manifest of the directory has them."""
+    """The logs of a directory, by id, each up to its durable bytes if the manifest of the directory
+    has them."""
     logs, lengths = {}, durable_lengths(path)
     for name in os.listdir(path):
         log = log_of(name)

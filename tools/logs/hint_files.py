@@ -1,6 +1,8 @@
-"""Writes and reads hints as crates/bk_hint/README.md describes them, beside the program: for ./dev faults --hints.
+"""Writes and reads hints as crates/bk_hint/README.md describes them, beside the program: for ./dev
+faults --hints.
 
-A log is its bytes. An entry is its ledger, its entry id, the position of its payload, and the bytes of its record.
+A log is its bytes. An entry is its ledger, its entry id, the position of its payload, and the bytes
+of its record.
 """
 
 import struct
@@ -47,7 +49,11 @@ def signed(hint):
 
 def place_of_map(log):
     """Where a log has its ledgers map, and how many pairs; None if it is not sealed."""
-    if len(log) < entry_logs.HEADER or log[:4] != b"BKLO" or entry_logs.number(log, 4, 4) not in (0, 1):
+    if (
+        len(log) < entry_logs.HEADER
+        or log[:4] != b"BKLO"
+        or entry_logs.number(log, 4, 4) not in (0, 1)
+    ):
         return None
     if entry_logs.number(log, 4, 4) == 0:
         return None
@@ -62,7 +68,10 @@ def ledgers_map(log):
         if len(log) - at < 24:
             return None
         length, pairs = entry_logs.number(log, at, 4), entry_logs.number(log, at + 20, 4)
-        is_batch = [entry_logs.number(log, at + 4, 8), entry_logs.number(log, at + 12, 8)] == [-1, -2]
+        is_batch = [entry_logs.number(log, at + 4, 8), entry_logs.number(log, at + 12, 8)] == [
+            -1,
+            -2,
+        ]
         if not is_batch or pairs < 0 or length != 20 + 16 * pairs or len(log) - at - 4 < length:
             return None
         for place in range(at + 24, at + 24 + 16 * pairs, 16):
@@ -77,7 +86,11 @@ def ledgers_map(log):
 def entries_of(log):
     """The entries of a log before its ledgers map."""
     at, _ = place_of_map(log)
-    return [(ledger, entry, place, 20 + len(data)) for place, ledger, entry, data in entry_logs.Log(log).entries if place < at]
+    return [
+        (ledger, entry, place, 20 + len(data))
+        for place, ledger, entry, data in entry_logs.Log(log).entries
+        if place < at
+    ]
 
 
 def facts_of(number, log):
@@ -109,7 +122,9 @@ def steps_of(entries):
 
 def packed(number, length, checksum, heads, steps):
     front = FRONT.pack(MAGIC, VERSION, number, length, checksum, len(heads), len(steps))
-    return signed(front + b"".join(HEAD.pack(*it) for it in heads) + struct.pack(f">{len(steps)}I", *steps))
+    return signed(
+        front + b"".join(HEAD.pack(*it) for it in heads) + struct.pack(f">{len(steps)}I", *steps)
+    )
 
 
 def hint_of(number, log):
@@ -131,11 +146,16 @@ def unpacked(hint):
     if signed(hint[:-SUM]) != hint:
         return "bad hint checksum"
     end = FRONT.size + HEAD.size * heads
-    return (number, length, checksum), list(HEAD.iter_unpack(hint[FRONT.size : end])), list(struct.unpack_from(f">{steps}I", hint, end))
+    return (
+        (number, length, checksum),
+        list(HEAD.iter_unpack(hint[FRONT.size : end])),
+        list(struct.unpack_from(f">{steps}I", hint, end)),
+    )
 
 
 def runs_of(heads, steps):
-    """Each step's first entry and how many entries it lists; None if one is not legal, or a head has no step."""
+    """Each step's first entry and how many entries it lists; None if one is not legal, or a head
+    has no step."""
     runs, heads, past, last = [], iter(heads), entry_logs.HEADER, None
     for step in steps:
         if step == BEGIN:
@@ -159,7 +179,8 @@ def runs_of(heads, steps):
 
 
 def why_not(number, log, hint):
-    """Why a hint may not be used for the log of this id and bytes, as the program says it; None if it may."""
+    """Why a hint may not be used for the log of this id and bytes, as the program says it; None if
+    it may."""
     found = unpacked(hint)
     if isinstance(found, str):
         return found
@@ -188,4 +209,8 @@ def listed(hint):
     """The entries of a hint that may be used."""
     _, heads, steps = unpacked(hint)
     runs = runs_of(heads, steps)
-    return [(ledger, entry + it, at + it * size, size) for ledger, entry, at, size, count in runs for it in range(count)]
+    return [
+        (ledger, entry + it, at + it * size, size)
+        for ledger, entry, at, size, count in runs
+        for it in range(count)
+    ]

@@ -3,9 +3,9 @@
 
 usage: tools/logs/sample_folder.py DIR     DIR must not exist
 
-Writes DIR/current with four logs, byte by byte as docs/format.md describes them, and DIR/live.txt with the ledgers that
-still exist, as the stock shell lists them. Three logs are sealed. Log 31 is not, and ends in half a record. Ledgers 1 and 4
-are not in the list.
+Writes DIR/current with four logs, byte by byte as docs/format.md describes them, and DIR/live.txt
+with the ledgers that still exist, as the stock shell lists them. Three logs are sealed. Log 31 is
+not, and ends in half a record. Ledgers 1 and 4 are not in the list.
 """
 
 import sys
@@ -57,7 +57,9 @@ def ledgers_map(entries):
 
 
 def header(position, count):
-    return (MAGIC + number(VERSION, 4) + number(position, 8) + number(count, 4)).ljust(HEADER, b"\0")
+    return (MAGIC + number(VERSION, 4) + number(position, 8) + number(count, 4)).ljust(
+        HEADER, b"\0"
+    )
 
 
 def sealed(entries):
@@ -68,7 +70,9 @@ def sealed(entries):
 
 def torn(entries):
     entry, kept = TORN
-    return header(0, 0) + b"".join(entry_record(*it) for it in entries) + entry_record(*entry)[:kept]
+    return (
+        header(0, 0) + b"".join(entry_record(*it) for it in entries) + entry_record(*entry)[:kept]
+    )
 
 
 def main(words):

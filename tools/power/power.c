@@ -1,19 +1,21 @@
-// Leaves out syncs of a program, reports what it has read, lets a call fail, and kills it at a call: for
-// ./dev power, which compiles it and preloads it in the guest.
+// Leaves out syncs of a program, reports what it has read, lets a call fail, and kills it at a
+// call: for ./dev power, which compiles it and preloads it in the guest.
 //
 //   POWER_LEAVE_OUT  the syncs that are left out, each between commas, as ,opening,folder,
-//                      opening   of a file that is open to read alone, as an opening and a roll have it
+//                      opening   of a file that is open to read alone, as an opening and a roll
+//                                have it
 //                      manifest  of a manifest, a file NAME.manifest
 //                      replace   of a file that is to replace one, NAME.manifest.new
 //                      publish   of another file
 //                      folder    of a directory
 //                      all       each of these
-//   POWER_MESSAGES   the device that gets a message `marker N` when the program has read entry N of the ledger
-//                    MARKER; each number once, by rising numbers
+//   POWER_MESSAGES   the device that gets a message `marker N` when the program has read entry N of
+//                    the ledger MARKER; each number once, by rising numbers
 //   POWER_FROM       the first entry that is reported
 //   POWER_FOLDER     the folder, an absolute path: calls that change files in it are counted
 //   POWER_KILL_AT    the process ends before this call, from 1; 0: never
-//   POWER_FAIL_AT    this write or sync in the folder, from 1, fails with EIO, and does nothing; 0: none
+//   POWER_FAIL_AT    this write or sync in the folder, from 1, fails with EIO, and does nothing; 0:
+//                    none
 #define _GNU_SOURCE
 #include <errno.h>
 #include <fcntl.h>

@@ -1,8 +1,8 @@
 // The client of a session of the server, in the guest of ./dev power.
 //
-// /tmp/steps has a line for each group of requests: their frames, in hexadecimal. A group is sent when each request of
-// the one before has its reply. Then `replies NUMBER GROUP` is reported, with the bytes of the replies. The server's
-// input ends after the last group.
+// /tmp/steps has a line for each group of requests: their frames, in hexadecimal. A group is sent
+// when each request of the one before has its reply. Then `replies NUMBER GROUP` is reported, with
+// the bytes of the replies. The server's input ends after the last group.
 #define _GNU_SOURCE
 #include "power_guest.h"
 #include <fcntl.h>

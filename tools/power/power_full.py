@@ -1,4 +1,5 @@
-"""What is done to a directory on a full disk in the guest of ./dev power, before room is made: reading, and opening."""
+"""What is done to a directory on a full disk in the guest of ./dev power, before room is made:
+reading, and opening."""
 
 from power_runs import FOLDER, Run, answers_of
 
@@ -7,13 +8,16 @@ LEDGERS = 2
 
 
 class Crowd:
-    """The runs on a full disk: reading commands, each of which has to find what is promised, and writing ones, which open
-    the directory or are refused with a named fault."""
+    """The runs on a full disk: reading commands, each of which has to find what is promised, and
+    writing ones, which open the directory or are refused with a named fault."""
 
     def __init__(self, story, entries):
         ledgers = sorted({ledger for ledger, _ in entries})
         self.ledgers = story.chance.sample(ledgers, min(LEDGERS, len(ledgers)))
-        export = [Run(0, "export", ["export", *story.keeping, FOLDER, str(ledger)]) for ledger in self.ledgers]
+        export = [
+            Run(0, "export", ["export", *story.keeping, FOLDER, str(ledger)])
+            for ledger in self.ledgers
+        ]
         writing = [story.look(0, entries), story.make_compact()[0]] if entries else []
         self.readers, self.writers, self.runs = export, writing, [*export, *writing]
         for number, run in enumerate(self.runs):
@@ -29,8 +33,15 @@ class Crowd:
             lines = answers_of(ends[run.number].data.decode(errors="replace"))
             found = {int(number): data for number, data in (line.split() for line in lines)}
             for (its, entry), data in promise.must.items():
-                if its == ledger and ledger not in promise.dead and found.get(entry) != (data.hex() or "-"):
-                    yield f"on the full disk, entry {entry} of ledger {ledger} is {found.get(entry)!r:.40}"
+                if (
+                    its == ledger
+                    and ledger not in promise.dead
+                    and found.get(entry) != (data.hex() or "-")
+                ):
+                    yield (
+                        f"on the full disk, entry {entry} of ledger {ledger} is "
+                        f"{found.get(entry)!r:.40}"
+                    )
 
     def counted(self, ends):
         """Yields what each run that ended did."""

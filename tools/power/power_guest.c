@@ -1,15 +1,18 @@
 // The first process of the guest of ./dev power, and the commands of its jobs by which it reports.
 //
-// As the first process it loads the modules of /modules/list and does one job after another. A job `look TYPE OPTIONS`
-// mounts the data disk and reports its directory of logs; it starts no other process, since each costs tens of
-// milliseconds without acceleration. Another job is a script, which /jobs.sh runs with these commands:
+// As the first process it loads the modules of /modules/list and does one job after another. A job
+// `look TYPE OPTIONS` mounts the data disk and reports its directory of logs; it starts no other
+// process, since each costs tens of milliseconds without acceleration. Another job is a script,
+// which /jobs.sh runs with these commands:
 //
 //   say WORD..                     reports words, at this moment of the data disk
-//   send_logs WORD..               reports the directory of logs as an archive, an empty one if it is not there
+//   send_logs WORD..               reports the directory of logs as an archive, an empty one if it
+//                                  is not there
 //   run NUMBER FROM KILL_AT FAIL_AT WORD..
-//                                  runs the program with /tmp/steps, between two reports: begin NUMBER, and end NUMBER
-//                                  STATUS with its output, a line `--` and its error output; ends with its status. With
-//                                  the first word `serve` it runs the server with the others, whose client is
+//                                  runs the program with /tmp/steps, between two reports: begin
+//                                  NUMBER, and end NUMBER STATUS with its output, a line `--` and
+//                                  its error output; ends with its status. With the first word
+//                                  `serve` it runs the server with the others, whose client is
 //                                  power_client.c
 //
 // /dev/vda is the data disk, /dev/vdb takes messages, /dev/vdc has the next job.
@@ -27,7 +30,8 @@
 #include <sys/wait.h>
 #include <unistd.h>
 
-// As in power_nbd.py: where the data of a message is put, and where the next job is read, its length and its text.
+// As in power_nbd.py: where the data of a message is put, and where the next job is read, its
+// length and its text.
 enum { SECTOR = 512, BLOCK = 4096, DATA_AT = 1 << 20, JOB_AT = 16 << 20, TEXT_AT = 32 << 20, MOST = 64 << 20 };
 static const char LOGS[] = "/mnt/logs";
 

@@ -1,4 +1,5 @@
-// What the parts of the guest's first process share, for ./dev power: power_guest.c and power_client.c.
+// What the parts of the guest's first process share, for ./dev power: power_guest.c and
+// power_client.c.
 #include <stddef.h>
 
 // Bytes of a message.
@@ -16,11 +17,12 @@ struct bytes area(void);
 // Adds bytes, and zeros up to whole blocks of a size.
 void add(struct bytes *to, const void *data, size_t length, size_t block);
 
-// Reads a file, pipe or device to its end, or until a call fails, and adds that. Returns 0, or why it cannot be read.
+// Reads a file, pipe or device to its end, or until a call fails, and adds that. Returns 0, or why
+// it cannot be read.
 int add_rest(struct bytes *to, int fd);
 
-// Reports bytes with words: first the bytes, then their length and the words, which stand between the events of the
-// data disk.
+// Reports bytes with words: first the bytes, then their length and the words, which stand between
+// the events of the data disk.
 void report(struct bytes data, const char *words);
 
 int opened(const char *name, int flags);

@@ -22,14 +22,17 @@ TOOLS = {
 }  # fmt: skip
 KERNEL = "linux-image-cloud-amd64"
 ALWAYS = ("virtio_pci", "virtio_blk")
-# A busy machine gives timers late. Without random addresses QEMU translates a program's code once, not for each process. The
-# others spare time: pages of 2 MiB and new pages are not filled with zeros in advance, and no tests run at the boot.
+# A busy machine gives timers late. Without random addresses QEMU translates a program's code once,
+# not for each process. The others spare time: pages of 2 MiB and new pages are not filled with
+# zeros in advance, and no tests run at the boot.
 OPTIONS = (
-    "console=ttyS0 quiet panic=-1 oops=panic mitigations=off no_timer_check norandmaps nokaslr init_on_alloc=0 "
+    "console=ttyS0 quiet panic=-1 oops=panic mitigations=off no_timer_check norandmaps nokaslr "
+    "init_on_alloc=0 "
     "transparent_hugepage=never cryptomgr.notests audit=0 apparmor=0 selinux=0"
 )
-# One processor, on which code runs as if there were more: else a request of a disk was lost, perhaps for want of barriers.
-# It has what a built program needs (x86-64-v2), as QEMU's default has not.
+# One processor, on which code runs as if there were more: else a request of a disk was lost,
+# perhaps for want of barriers. It has what a built program needs (x86-64-v2), as QEMU's default has
+# not.
 PROCESSORS = ("-cpu", "Nehalem", "-smp", "1,maxcpus=2")
 # Its memory, and the most that QEMU keeps of translated code, both in MiB.
 MEMORY = ("-m", "256", "-accel", "tcg,tb-size=64")
@@ -38,12 +41,19 @@ SECONDS = 900
 
 
 class FileSystem:
-    """A kind of file system: its size and how it is made, the modules that it wants, where its superblocks are, the lines of
-    the shell after which its kernel threads write nothing by themselves, and every 5 or 30 seconds, and what its manual says
-    to run on one that cannot be mounted."""
+    """A kind of file system: its size and how it is made, the modules that it wants, where its
+    superblocks are, the lines of the shell after which its kernel threads write nothing by
+    themselves, and every 5 or 30 seconds, and what its manual says to run on one that cannot be
+    mounted."""
 
     def __init__(self, name, mebibytes, make, modules, superblocks, threads, repair=None):
-        self.name, self.mebibytes, self.make, self.modules, self.repair = name, mebibytes, make, modules, repair
+        self.name, self.mebibytes, self.make, self.modules, self.repair = (
+            name,
+            mebibytes,
+            make,
+            modules,
+            repair,
+        )
         self.superblocks, (self.quiet, self.usual) = superblocks, threads
 
     def empty(self, path):
@@ -60,10 +70,19 @@ COMMITS = ("mount -o remount,commit=600 /dev/vda /mnt", ":")
 LOG_WORK = tuple(f"echo {pause} >/proc/sys/fs/xfs/xfssyncd_centisecs" for pause in (720000, 3000))
 FILE_SYSTEMS = {
     # Nothing is left to be initialized later, so that the kernel does not write by itself.
-    "ext4": FileSystem("ext4", 64, ["mkfs.ext4", "-q", "-E", "lazy_itable_init=0,lazy_journal_init=0"], (), (0,), COMMITS,
-                       ["e2fsck", "-f", "-y"]),
+    "ext4": FileSystem(
+        "ext4",
+        64,
+        ["mkfs.ext4", "-q", "-E", "lazy_itable_init=0,lazy_journal_init=0"],
+        (),
+        (0,),
+        COMMITS,
+        ["e2fsck", "-f", "-y"],
+    ),
     "xfs": FileSystem("xfs", 320, ["mkfs.xfs", "-q"], ("xfs",), (), LOG_WORK),
-    "btrfs": FileSystem("btrfs", 256, ["mkfs.btrfs", "-q"], ("btrfs",), (64 << 10, 64 << 20), COMMITS),
+    "btrfs": FileSystem(
+        "btrfs", 256, ["mkfs.btrfs", "-q"], ("btrfs",), (64 << 10, 64 << 20), COMMITS
+    ),
 }
 
 
@@ -72,7 +91,8 @@ def path_of(tool):
 
 
 def kernel():
-    """Returns the newest kernel that has its modules, and their directory; None if there is none."""
+    """Returns the newest kernel that has its modules, and their directory; None if there is
+    none."""
     for path in sorted(glob.glob("/boot/vmlinuz-*cloud-amd64"), reverse=True):
         modules = Path("/lib/modules") / path.removeprefix("/boot/vmlinuz-")
         if (modules / "modules.dep").exists():
@@ -82,7 +102,9 @@ def kernel():
 
 def absent():
     """Returns the names of the Debian packages that are needed and absent."""
-    return [package for tool, package in TOOLS.items() if not path_of(tool)] + ([] if kernel() else [KERNEL])
+    return [package for tool, package in TOOLS.items() if not path_of(tool)] + (
+        [] if kernel() else [KERNEL]
+    )
 
 
 # ---- the first file system of the guest
@@ -121,7 +143,8 @@ def libraries(program):
 
 
 def modules_of(directory, wanted):
-    """Returns the files of modules and of those that they need, in an order in which they can be loaded."""
+    """Returns the files of modules and of those that they need, in an order in which they can be
+    loaded."""
     needs = {}
     for line in (directory / "modules.dep").read_text().splitlines():
         file, _, rest = line.partition(":")
@@ -137,17 +160,27 @@ def modules_of(directory, wanted):
 
 def compiled(room, name, sources, *options):
     made = room / name
-    subprocess.run([path_of("gcc"), "-O2", *options, "-o", made, *(HERE / source for source in sources)], check=True)
+    subprocess.run(
+        [path_of("gcc"), "-O2", *options, "-o", made, *(HERE / source for source in sources)],
+        check=True,
+    )
     return made
 
 
 def first_files(room, program, server, names):
-    """Writes the guest's first file system, with the programs, for file systems of these names. Returns its path."""
+    """Writes the guest's first file system, with the programs, for file systems of these names.
+    Returns its path."""
     archive, directory = Archive(), kernel()[1]
-    files = modules_of(directory, [*ALWAYS, *(it for name in names for it in FILE_SYSTEMS[name].modules)])
+    files = modules_of(
+        directory, [*ALWAYS, *(it for name in names for it in FILE_SYSTEMS[name].modules)]
+    )
     for file in files:
         archive.add_file(f"modules/{Path(file).name}", directory / file)
-    programs = {"bin/busybox": path_of("busybox"), "program": program, **({"server": server} if server else {})}
+    programs = {
+        "bin/busybox": path_of("busybox"),
+        "program": program,
+        **({"server": server} if server else {}),
+    }
     for name, path in programs.items():
         for library in libraries(path):
             archive.add_file(library.lstrip("/"), library)
@@ -157,7 +190,9 @@ def first_files(room, program, server, names):
     for name in ("run", "say", "send_logs"):
         archive.add(f"bin/{name}", b"/init", 0o120777)
     archive.add_file("jobs.sh", HERE / "power_jobs.sh", 0o100644)
-    archive.add("modules/list", "".join(f"{Path(file).name}\n" for file in files).encode(), 0o100644)
+    archive.add(
+        "modules/list", "".join(f"{Path(file).name}\n" for file in files).encode(), 0o100644
+    )
     archive.save(room / "first.cpio")
     return room / "first.cpio"
 
@@ -213,11 +248,15 @@ class Guest:
                 if self.machine.poll() is not None:
                     raise Dead(self.last_lines()) from None
                 if time.monotonic() > end:
-                    raise Silent(f"the machine is silent for {SECONDS} s: {self.last_lines()}") from None
+                    raise Silent(
+                        f"the machine is silent for {SECONDS} s: {self.last_lines()}"
+                    ) from None
         return messages[:-1], Recording(image, self.server.events)
 
     def last_lines(self):
-        lines = self.console.read_text(errors="replace").splitlines() if self.console.exists() else []
+        lines = (
+            self.console.read_text(errors="replace").splitlines() if self.console.exists() else []
+        )
         return " | ".join(lines[-3:]) or "its console is empty"
 
     def close(self):

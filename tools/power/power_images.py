@@ -1,4 +1,5 @@
-"""What a power loss leaves on a disk: images made of recorded writes and flushes, for ./dev power."""
+"""What a power loss leaves on a disk: images made of recorded writes and flushes, for ./dev
+power."""
 
 import hashlib
 import os
@@ -11,7 +12,8 @@ VARIANTS = ("none", "all", "some", "blocks", "torn", "last", "all but one")
 
 
 class Base:
-    """A file with an empty file system, and the numbers of the blocks that are never torn: those of superblocks."""
+    """A file with an empty file system, and the numbers of the blocks that are never torn: those of
+    superblocks."""
 
     def __init__(self, path, whole=()):
         self.whole = whole
@@ -70,7 +72,8 @@ class Image:
 
 
 def pieces(offset, data, size):
-    """Yields the parts of a write in blocks of a size: the block's number, and place and bytes of the part."""
+    """Yields the parts of a write in blocks of a size: the block's number, and place and bytes of
+    the part."""
     at, end = offset, offset + len(data)
     while at < end:
         stop = min(end, (at // size + 1) * size)
@@ -88,15 +91,19 @@ class Recording:
         return sum(not isinstance(event, Message) for event in self.events)
 
     def choose(self, chance, groups):
-        """Chooses an event in front of which the power is cut: one in two times any, else one that follows a message of
-        one of the groups of events, at once or nearly."""
-        requests = [index for index, event in enumerate(self.events, 1) if not isinstance(event, Message)]
+        """Chooses an event in front of which the power is cut: one in two times any, else one that
+        follows a message of one of the groups of events, at once or nearly."""
+        requests = [
+            index for index, event in enumerate(self.events, 1) if not isinstance(event, Message)
+        ]
         group = chance.choice([group for group in (*groups, *[requests] * len(groups)) if group])
         return min(len(self.events), chance.choice(group) + chance.choice((0, 0, 0, 1, 2)))
 
     def durable(self, cut):
         """The number of events whose writes the last flush before the cut covers."""
-        return max((event.covers for event in self.events[:cut] if isinstance(event, Flush)), default=0)
+        return max(
+            (event.covers for event in self.events[:cut] if isinstance(event, Flush)), default=0
+        )
 
     def image(self, cut, variant, chance):
         """The disk after a power loss in front of an event."""
@@ -111,7 +118,8 @@ class Recording:
 
 
 def parts(event, variant, whole):
-    """Yields place and bytes of the parts of a write that a device keeps or drops apart from each other."""
+    """Yields place and bytes of the parts of a write that a device keeps or drops apart from each
+    other."""
     for number, at, block in pieces(event.offset, event.data, BLOCK):
         if variant == "blocks" or number in whole:
             yield at, block
@@ -122,7 +130,8 @@ def parts(event, variant, whole):
 def kept(pending, variant, chance, whole):
     """Yields what a device keeps of writes that no flush covers, in one of the ways of VARIANTS.
 
-    A device that reorders them leaves the older one of two writes of a block, or the newer: so does one that drops some.
+    A device that reorders them leaves the older one of two writes of a block, or the newer: so does
+    one that drops some.
     """
     dropped = chance.randrange(len(pending)) if pending else 0
     share = chance.choice((0.2, 0.5, 0.8))

@@ -1,4 +1,5 @@
-# Runs /tmp/job, a script for the guest of ./dev power. Beside the functions here it uses the commands of power_guest.c.
+# Runs /tmp/job, a script for the guest of ./dev power. Beside the functions here it uses the
+# commands of power_guest.c.
 
 # run NUMBER FROM KILL_AT FAIL_AT WORD.., and keeps the status.
 run() {

@@ -1,4 +1,5 @@
-"""A disk over NBD that records each request, with an export for messages and one for jobs: for ./dev power."""
+"""A disk over NBD that records each request, with an export for messages and one for jobs: for
+./dev power."""
 
 import dataclasses
 import queue
@@ -7,8 +8,8 @@ import socket
 import struct
 import threading
 
-# Where the guest puts the data of a message, and where it reads its next job: its length, then its text. Reads at the front
-# of a disk are of the kernel, which looks for partitions there.
+# Where the guest puts the data of a message, and where it reads its next job: its length, then its
+# text. Reads at the front of a disk are of the kernel, which looks for partitions there.
 DATA_AT, JOB_AT, TEXT_AT = 1 << 20, 16 << 20, 32 << 20
 AREA = 256 << 20
 SECTOR = 512
@@ -72,7 +73,8 @@ class Connection:
         self.sock.sendall(struct.pack(">QIII", OPTION_ANSWER, option, kind, len(data)) + data)
 
     def options(self):
-        """Refuses options until the guest chooses an export. Returns its name; the size follows by `choose`."""
+        """Refuses options until the guest chooses an export. Returns its name; the size follows by
+        `choose`."""
         while True:
             magic, self.option, length = struct.unpack(">QII", self.whole(16))
             data = self.whole(length)
@@ -136,7 +138,8 @@ class Server:
         self.thread.start()
 
     def record(self, disk):
-        """Puts another disk in the place of the one that the guest has; the guest must not use it then."""
+        """Puts another disk in the place of the one that the guest has; the guest must not use it
+        then."""
         self.disk, self.events = disk, []
 
     def give(self, text):

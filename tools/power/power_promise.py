@@ -1,4 +1,5 @@
-"""What is promised at each event of a recording of ./dev power: entries, deletions, fences, attributes, removals."""
+"""What is promised at each event of a recording of ./dev power: entries, deletions, fences,
+attributes, removals."""
 
 import io
 import tarfile
@@ -11,9 +12,9 @@ TOLD = ("begin", "marker", "replies", "end", "taken")
 
 
 class Promise:
-    """What must be found after a power loss, what may be, the ledgers that may be deleted, the deletions and fences that
-    were answered, which must be there too, the logs whose removal was answered, which must not, and the values that an
-    attribute of a ledger may have."""
+    """What must be found after a power loss, what may be, the ledgers that may be deleted, the
+    deletions and fences that were answered, which must be there too, the logs whose removal was
+    answered, which must not, and the values that an attribute of a ledger may have."""
 
     def __init__(self, must=(), may=(), dead=(), ended=(), gone=(), attributes=()):
         self.must, self.may, self.dead, self.ended = dict(must), dict(may), set(dead), set(ended)
@@ -36,16 +37,20 @@ class Promise:
 
 
 class Timeline:
-    """What is promised at each event of a recording: each message adds something. Runs keep what their messages say."""
+    """What is promised at each event of a recording: each message adds something. Runs keep what
+    their messages say."""
 
     def __init__(self, runs, events, before):
         self.before, self.points = before, []
-        # The events that follow a message which promises something: what was read or done, and what was published.
+        # The events that follow a message which promises something: what was read or done, and what
+        # was published.
         self.found, self.published = [], []
         # The kind of the run that begins at an event.
         self.begun = []
         by_number = {run.number: run for run in runs}
-        messages = [(index, event) for index, event in enumerate(events) if isinstance(event, Message)]
+        messages = [
+            (index, event) for index, event in enumerate(events) if isinstance(event, Message)
+        ]
         run = None
         for place, (index, event) in enumerate(messages):
             kind = event.words[0]
@@ -60,7 +65,9 @@ class Timeline:
             self.begun.append((index, run.counted()))
         added = getattr(run, f"on_{kind}")(event, follows[0][1] if follows else None, before)
         if added.is_more_than(before):
-            is_published = kind in ("marker", "replies") and not added.must.keys() <= before.must.keys()
+            is_published = (
+                kind in ("marker", "replies") and not added.must.keys() <= before.must.keys()
+            )
             (self.published if is_published else self.found).append(index + 1)
         self.points.append((index, added))
 
@@ -96,12 +103,15 @@ def files_of(tar):
         for member in archive:
             place = member.name.removeprefix("./").split("/")
             if place[0] == "logs" and len(place) < 3:
-                found["/".join(place[1:])] = archive.extractfile(member).read() if member.isreg() else b""
+                found["/".join(place[1:])] = (
+                    archive.extractfile(member).read() if member.isreg() else b""
+                )
     return found
 
 
 def loaded(files, last):
-    """The entries of loads in a directory's files: a load uses the ledgers after the last one, and deletes some."""
+    """The entries of loads in a directory's files: a load uses the ledgers after the last one, and
+    deletes some."""
     logs = {entry_logs.log_of(name): entry_logs.Log(data) for name, data in files.items()}
     logs.pop(None, None)
     gone = entry_logs.deleted_ledgers(files.get(entry_logs.LEDGERS, b""))

@@ -1,4 +1,5 @@
-"""The runs of the shell in the guest of ./dev power: how one is begun, what it promises, and what is wrong with it."""
+"""The runs of the shell in the guest of ./dev power: how one is begun, what it promises, and what
+is wrong with it."""
 
 import subprocess
 import tempfile
@@ -9,7 +10,8 @@ from power_promise import Promise, coded, deleted, files_of, loaded
 FOLDER = "/mnt/logs"
 # Without a record of what is durable: the options of `script --folder`.
 UNRECORDED = ["--no-manifest"]
-# A ledger that is used for nothing else: the library of the guest reports each read of its entries (power.c).
+# A ledger that is used for nothing else: the library of the guest reports each read of its entries
+# (power.c).
 MARKER, WORD, NO_MARKER = 900, "marker", 1 << 40
 KILLED = 137
 
@@ -21,7 +23,8 @@ class Run:
         self.number, self.kind, self.words, self.steps = number, kind, words, []
         # A run that publishes nothing reports no marker, also if it copies one.
         self.first_marker = NO_MARKER
-        # The call at which it is killed, and the one in which the device fails; whether the disk may be full.
+        # The call at which it is killed, and the one in which the device fails; whether the disk
+        # may be full.
         self.kill_at = self.fail_at = 0
         self.is_full = False
 
@@ -45,7 +48,9 @@ class Run:
     def trouble(self, status, output):
         """Why a run that was not killed is not as it must be, or None."""
         lines, _, told = output.rpartition("--\n")
-        faults = [line for line in [*lines.splitlines(), *told.splitlines()] if line.startswith("fault")]
+        faults = [
+            line for line in [*lines.splitlines(), *told.splitlines()] if line.startswith("fault")
+        ]
         why = [*faults, *told.strip().splitlines(), *lines.strip().splitlines()[-1:], "no word"][0]
         if self.may_fail() and (status == 0 or status == 1 and faults):
             return None
@@ -61,7 +66,8 @@ class Run:
 
 
 class Stretch:
-    """A part of a script: the ledgers that it ends, and then the entries that are promised at its marker."""
+    """A part of a script: the ledgers that it ends, and then the entries that are promised at its
+    marker."""
 
     def __init__(self):
         # Pairs of `delete` or `fence`, and a ledger.
@@ -103,14 +109,22 @@ class Script(Run):
         marker = int(event.words[1])
         flushed = next(it.entries for it in self.stretches if it.marker == marker)
         is_sure = self.is_recorded() and not self.may_fail()
-        return Promise(coded(flushed), {}, self.dead_until(follows), self.ended(marker) if is_sure else ())
+        return Promise(
+            coded(flushed), {}, self.dead_until(follows), self.ended(marker) if is_sure else ()
+        )
 
     def on_end(self, event, follows, before):
         """What it answered is done. One that was killed has answered nothing."""
         answers = list(zip(self.steps, answers_of(event.data.decode(errors="replace"))))
         is_well = int(event.words[2]) == 0 and self.is_recorded()
-        ended = [ended_by(step) for step, answer in answers if is_done(step, answer)] if is_well else ()
-        gone = [int(step.split()[1]) for step, answer in answers if step.startswith("remove ") and answer == "removed"]
+        ended = (
+            [ended_by(step) for step, answer in answers if is_done(step, answer)] if is_well else ()
+        )
+        gone = [
+            int(step.split()[1])
+            for step, answer in answers
+            if step.startswith("remove ") and answer == "removed"
+        ]
         return Promise((), {}, deleted(self.ended()), ended, () if self.may_fail() else gone)
 
 
@@ -191,11 +205,19 @@ def is_done(step, answer):
 
 
 def exported(program, entries):
-    """Lets the program write entries to a directory of the host, and export them. Returns their records."""
+    """Lets the program write entries to a directory of the host, and export them. Returns their
+    records."""
     with tempfile.TemporaryDirectory(prefix="bookie-power-") as room:
-        folder, add = Path(room) / "logs", [f"add {it[0]} {it[1]} {text}".rstrip(" ") for it, text in entries.items()]
+        folder, add = Path(room) / "logs", [
+            f"add {it[0]} {it[1]} {text}".rstrip(" ") for it, text in entries.items()
+        ]
         steps = "\n".join([*add, "swap", *["write"] * (len(add) + 1), "publish", ""])
-        subprocess.run([program, "script", "--folder", folder], input=steps.encode(), capture_output=True, check=True)
+        subprocess.run(
+            [program, "script", "--folder", folder],
+            input=steps.encode(),
+            capture_output=True,
+            check=True,
+        )
         ledgers = sorted({ledger for ledger, _ in entries})
         export = [[program, "export", "--raw", folder, str(ledger)] for ledger in ledgers]
         return b"".join(subprocess.run(it, capture_output=True, check=True).stdout for it in export)

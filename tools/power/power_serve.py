@@ -1,7 +1,8 @@
 """Sessions of the server in the guest of ./dev power: their requests, and what the replies promise.
 
-The requests go in groups. The guest's client (power_client.c) sends a group when the one before is answered, and reports the
-replies. So a promise begins with the message of its reply, and what the next group asks for may be done from then on.
+The requests go in groups. The guest's client (power_client.c) sends a group when the one before is
+answered, and reports the replies. So a promise begins with the message of its reply, and what the
+next group asks for may be done from then on.
 """
 
 import serve_faults
@@ -10,7 +11,8 @@ from power_runs import FOLDER, Run
 
 bookie, frames = serve_faults.bookie, serve_faults.frames
 
-# The replies of a session whose device does not fail, by request; each that makes entries durable has the same ones.
+# The replies of a session whose device does not fail, by request; each that makes entries durable
+# has the same ones.
 FLUSHED = dict.fromkeys(bookie.FLUSHES, bookie.FLUSHED)
 RIGHT = {
     "hello": ("welcome",), "add": ("accepted",), "read": ("entry", "not_held", "deleted"), "fence": ("fenced_now",),
@@ -23,7 +25,8 @@ FAILED = ("disk", "odd")
 # Requests that set an attribute, by those that ask for it.
 ATTRIBUTES = {"master_key": "set_master_key", "explicit_lac": "set_explicit_lac"}
 SETS = {request: name for name, request in ATTRIBUTES.items()}
-# The most entries of earlier runs that a session reads, and the most ledgers of which it asks the attributes.
+# The most entries of earlier runs that a session reads, and the most ledgers of which it asks the
+# attributes.
 LOOKS, ASKED = 30, 5
 
 
@@ -44,8 +47,10 @@ def whole_replies(data):
 
 
 class Session(Run):
-    """A session: requests, whose ids are their places, and the first id of each group; the entries that it adds, and the
-    bytes of those that it reads. The replies are those of its messages so far, and the accepted entries those too."""
+    """A session: requests, whose ids are their places, and the first id of each group; the entries
+    that it adds, and the bytes of those that it reads. The replies are those of its messages so
+    far, and the accepted entries those too.
+    """
 
     def __init__(self, number, options):
         super().__init__(number, "serve", ["serve", FOLDER, *options])
@@ -65,15 +70,22 @@ class Session(Run):
 
     def ended(self):
         """The ledgers that it ends."""
-        return [(it.name, it.fields["ledger"]) for it in self.requests if it.name in ("delete", "fence")]
+        return [
+            (it.name, it.fields["ledger"]) for it in self.requests if it.name in ("delete", "fence")
+        ]
 
     def ids_of(self, group):
         """The ids of the requests of a group; of none after the last one."""
         return range(*self.groups[group : group + 2]) if group + 1 < len(self.groups) else range(0)
 
     def job(self):
-        frame = [frames.encode(frames.BY_NAME[it.name], id, it.fields).hex() for id, it in enumerate(self.requests)]
-        self.steps = ["".join(frame[id] for id in self.ids_of(group)) for group in range(len(self.groups) - 1)]
+        frame = [
+            frames.encode(frames.BY_NAME[it.name], id, it.fields).hex()
+            for id, it in enumerate(self.requests)
+        ]
+        self.steps = [
+            "".join(frame[id] for id in self.ids_of(group)) for group in range(len(self.groups) - 1)
+        ]
         return super().job()
 
     # ---- what its replies promise
@@ -94,7 +106,8 @@ class Session(Run):
         return promise
 
     def on_end(self, event, follows, before):
-        """The end of the input makes all durable that was accepted. Later runs name the ledgers as deleted."""
+        """The end of the input makes all durable that was accepted. Later runs name the ledgers as
+        deleted."""
         return Promise(self.accepted if int(event.words[2]) == 0 else (), (), deleted(self.ended()))
 
     def take(self, promise, request, reply):
@@ -129,7 +142,11 @@ class Session(Run):
         """Returns the entries that it has read, with their bytes."""
         read = [(it.fields["ledger"], it.fields["entry"], self.replies.get(id)) for id, it in enumerate(self.requests)
                 if it.name == "read"]  # fmt: skip
-        return {(ledger, entry): reply.content for ledger, entry, reply in read if reply and reply.name == "entry"}
+        return {
+            (ledger, entry): reply.content
+            for ledger, entry, reply in read
+            if reply and reply.name == "entry"
+        }
 
     # ---- what is wrong with it
 
@@ -137,19 +154,28 @@ class Session(Run):
         replies = [(it.name, self.replies.get(id)) for id, it in enumerate(self.requests)]
         names = [(asked, reply.name if reply else "no reply") for asked, reply in replies]
         failed = (*FAILED, "no reply") if self.may_fail() else ()
-        wrong = [f"{name} is the reply to {asked}" for asked, name in names if name not in (*RIGHT[asked], *failed)]
+        wrong = [
+            f"{name} is the reply to {asked}"
+            for asked, name in names
+            if name not in (*RIGHT[asked], *failed)
+        ]
         others = [key for key, content in self.found().items() if content != self.read[key]]
         wrong += [f"entry {entry} of ledger {ledger} has other bytes" for ledger, entry in others]
         # A refusal by the device is a named fault too.
-        told = output + "fault disk\n" * (self.may_fail() and any(name in FAILED for _, name in names))
-        return super().trouble(status, told) or (f"{' '.join(self.words)}: {wrong[0]}" if wrong else None)
+        told = output + "fault disk\n" * (
+            self.may_fail() and any(name in FAILED for _, name in names)
+        )
+        return super().trouble(status, told) or (
+            f"{' '.join(self.words)}: {wrong[0]}" if wrong else None
+        )
 
 
 # ---- the sessions of a story
 
 
 def session(story):
-    """A session that reads what earlier runs left, and then flushes, deletes, fences and sets attributes."""
+    """A session that reads what earlier runs left, and then flushes, deletes, fences and sets
+    attributes."""
     chance, made = story.chance, Session(len(story.processes), options_of(story))
     keys = chance.sample(sorted(story.entries), min(len(story.entries), chance.choice((0, LOOKS))))
     look_back(story, made, coded({key: story.entries[key] for key in keys}))
@@ -176,7 +202,11 @@ def closed(made, is_asked=True):
 
 def options_of(story):
     chance, options = story.chance, ["--log-limit", story.limit]
-    for words, share in ((["--compact", "20,80"], 0.4), (["--readers", "2"], 0.25), (["--no-hints"], 0.1)):
+    for words, share in (
+        (["--compact", "20,80"], 0.4),
+        (["--readers", "2"], 0.25),
+        (["--no-hints"], 0.1),
+    ):
         options += words if chance.random() < share else []
     return options
 
@@ -223,7 +253,11 @@ def change(story, made, share):
     if name in SETS:
         ledger = chance.choice(story.live)
         story.attributes.add((SETS[name], ledger))
-        made.ask(name, ledger=ledger, **{field_of(name): chance.randbytes(chance.choice((0, 8, 20, 256)))})
+        made.ask(
+            name,
+            ledger=ledger,
+            **{field_of(name): chance.randbytes(chance.choice((0, 8, 20, 256)))},
+        )
     else:
         made.ask(name, ledger=story.end_one())
     if chance.random() < 0.5:

@@ -1,16 +1,30 @@
-"""What the guest of ./dev power does to a directory of logs: runs of the programs, one after another."""
+"""What the guest of ./dev power does to a directory of logs: runs of the programs, one after
+another."""
 
 import power_serve
 from power_promise import coded, deleted
-from power_runs import FOLDER, MARKER, UNRECORDED, WORD, Import, Look, Run, Script, Stretch, Taken, exported
+from power_runs import (
+    FOLDER,
+    MARKER,
+    UNRECORDED,
+    WORD,
+    Import,
+    Look,
+    Run,
+    Script,
+    Stretch,
+    Taken,
+    exported,
+)
 
 LIMITS = ("2048", "4000", "9000", "30000")
 SIZES = (0, 1, 20, 100, 300, 700, 1500, 5000)
 COMPACTION = ("major", "copy 2", "copy 1000", "end", "switch 1", "switch 1000", "finish")
 # Logs that a script tries to retire or to remove: more than there are, as a rule.
 LOGS = range(64)
-# The kinds of runs, with the calls between which one is killed; those that make a directory; those that work without a
-# record of what is durable; and those whose device may fail, with the most writes and syncs before.
+# The kinds of runs, with the calls between which one is killed; those that make a directory; those
+# that work without a record of what is durable; and those whose device may fail, with the most
+# writes and syncs before.
 KILLS = {
     "script": (2, 60), "serve": (2, 80), "compact": (2, 30), "load": (2, 400), "import": (2, 30), "hint": (1, 8),
     "seal": (2, 30),
@@ -24,8 +38,8 @@ WEIGHTS = {"script": 4, "serve": 4, "compact": 2, "load": 2, "failing": 2}
 
 
 class Story:
-    """Runs of the programs, one after another: flushes with deletions and compactions, some of them killed, and some on a
-    device that fails."""
+    """Runs of the programs, one after another: flushes with deletions and compactions, some of them
+    killed, and some on a device that fails."""
 
     def __init__(self, chance, asked, length):
         self.chance, self.asked, self.limit = chance, asked, chance.choice(LIMITS)
@@ -51,7 +65,8 @@ class Story:
             self.processes += self.runs_of(self.chance.choice(making or ["script"]))
 
     def runs_of(self, kind):
-        """A run of a kind, some of them killed, with the runs that look at what a killed or a failing one left."""
+        """A run of a kind, some of them killed, with the runs that look at what a killed or a
+        failing one left."""
         if kind == "failing":
             return self.failing()
         if kind == "load":
@@ -68,7 +83,6 @@ class Story:
         made = getattr(self, f"make_{kind}")()
         made[0].fail_at = self.chance.randrange(1, FAILING[kind])
         return [*made, self.look(made[0].number + 1)]
-
 
     def numbered(self, run, offset=0):
         run.number = len(self.processes) + offset
@@ -137,11 +151,22 @@ class Story:
         return made
 
     def load(self, is_whole=False):
-        """A load of threads, half of them killed if not the whole is asked for; then a compaction, which opens what that
-        left, and the files as they are."""
-        words = ["load", "--threads", "2", "--adds", str(self.chance.randrange(20, 200)), "--folder", FOLDER, *self.keeping]
+        """A load of threads, half of them killed if not the whole is asked for; then a compaction,
+        which opens what that left, and the files as they are."""
+        words = [
+            "load",
+            "--threads",
+            "2",
+            "--adds",
+            str(self.chance.randrange(20, 200)),
+            "--folder",
+            FOLDER,
+            *self.keeping,
+        ]
         load = self.run("load", words)
-        load.kill_at = 0 if is_whole else self.chance.choice((0, self.chance.randrange(*KILLS["load"])))
+        load.kill_at = (
+            0 if is_whole else self.chance.choice((0, self.chance.randrange(*KILLS["load"])))
+        )
         return [load, *self.make_compact(1), self.numbered(Taken(0), 2)]
 
     # ---- the steps of a script
@@ -150,14 +175,19 @@ class Story:
         found = {}
         for _ in range(self.chance.randrange(1, 9)):
             size = self.chance.choice(SIZES)
-            found[self.chance.choice(self.live), self.next_entry] = "".join(self.chance.choices("abcdefgh", k=size))
+            found[self.chance.choice(self.live), self.next_entry] = "".join(
+                self.chance.choices("abcdefgh", k=size)
+            )
             self.next_entry += 1
         return found
 
     def flush(self, process):
-        """Adds entries, writes and publishes them; compactions, deletions and fences come between."""
+        """Adds entries, writes and publishes them; compactions, deletions and fences come
+        between."""
         entries = {**self.some_entries(), (MARKER, self.next_marker): WORD}
-        process.steps += [f"add {ledger} {entry} {text}".rstrip(" ") for (ledger, entry), text in entries.items()]
+        process.steps += [
+            f"add {ledger} {entry} {text}".rstrip(" ") for (ledger, entry), text in entries.items()
+        ]
         self.entries.update(entries)
         process.added.update(entries)
         self.perhaps_end(process, 0.2)

@@ -1,4 +1,5 @@
-"""The cuts of ./dev power: runs in the guest, images of their recordings, and what is found in them."""
+"""The cuts of ./dev power: runs in the guest, images of their recordings, and what is found in
+them."""
 
 import random
 import subprocess
@@ -16,7 +17,8 @@ from power_promise import Promise, Timeline
 from power_runs import Run, troubles
 from power_story import Story
 
-# Images of one recording, the share of images that the guest opens itself, also on a full disk, and cuts of each of these.
+# Images of one recording, the share of images that the guest opens itself, also on a full disk, and
+# cuts of each of these.
 IMAGES, RECOVERED, CROWDED, AGAIN = 80, 1 / 12, 1 / 4, 4
 # Directories that are looked at while the guest mounts the next images.
 LOOKS = 3
@@ -35,7 +37,11 @@ class Trial:
         self.chance = random.Random(f"{asked.seed} {name}")
         self.base = self.kind.empty(room / name)
         self.first = first_files(room, asked.program, asked.server, [name])
-        self.looker, self.pool, self.looks = Looker(asked.program, asked.server, room), ThreadPoolExecutor(LOOKS), []
+        self.looker, self.pool, self.looks = (
+            Looker(asked.program, asked.server, room),
+            ThreadPoolExecutor(LOOKS),
+            [],
+        )
         self.guest, self.cuts, self.runs = None, 0, 0
 
     def is_over(self):
@@ -81,7 +87,8 @@ class Trial:
         return f"export POWER_LEAVE_OUT=,{kinds},\n{job}"
 
     def prepare(self):
-        """In one of two runs the kernel writes nothing before it is asked to, however slow the machine is."""
+        """In one of two runs the kernel writes nothing before it is asked to, however slow the
+        machine is."""
         pause, threads = self.chance.choice(((0, self.kind.quiet), (500, self.kind.usual)))
         fill = f"fill {self.asked.full}\n" if self.asked.full else ""
         return f"echo {pause} >/proc/sys/vm/dirty_writeback_centisecs\n{threads}\n{fill}"
@@ -93,7 +100,9 @@ class Trial:
         story = Story(self.chance, self.asked, self.asked.processes)
         began, start = time.monotonic(), Image(self.base)
         try:
-            messages, recording = self.job(self.with_syncs(f"{self.mount()}\n{self.prepare()}{story.job()}"), start)
+            messages, recording = self.job(
+                self.with_syncs(f"{self.mount()}\n{self.prepare()}{story.job()}"), start
+            )
         except Dead as why:
             raise Stopped(f"the machine ended: {why}") from None
         timeline = Timeline(story.processes, recording.events, Promise())
@@ -101,10 +110,15 @@ class Trial:
             raise Stopped(f"in the machine: {trouble}")
         self.runs += 1
         self.counts.add_runs(story.processes, messages)
-        faults, took = sum(message.data.count(b"fault ") for message in messages), time.monotonic() - began
+        faults, took = (
+            sum(message.data.count(b"fault ") for message in messages),
+            time.monotonic() - began,
+        )
         print(
-            f"{self.kind.name}, run {self.runs}: {recording.requests()} requests, {len(story.entries)} entries, "
-            f"{len(timeline.at(len(recording.events)).must)} promised, {timeline.removals()} removals, {faults} faults, "
+            f"{self.kind.name}, run {self.runs}: {recording.requests()} requests, "
+            f"{len(story.entries)} entries, "
+            f"{len(timeline.at(len(recording.events)).must)} promised, {timeline.removals()} "
+            f"removals, {faults} faults, "
             f"{took:.0f} s",
             file=sys.stderr, flush=True,
         )  # fmt: skip
@@ -114,7 +128,8 @@ class Trial:
             self.one_cut(recording, timeline)
 
     def one_cut(self, recording, timeline, name=""):
-        """Cuts a recording, and looks at the image: outside of the guest, or in it, and cuts it again."""
+        """Cuts a recording, and looks at the image: outside of the guest, or in it, and cuts it
+        again."""
         cut = recording.choose(self.chance, (timeline.found, timeline.published))
         variant = self.chance.choice(VARIANTS)
         image, promise = recording.image(cut, variant, self.chance), timeline.at(cut)
@@ -129,7 +144,9 @@ class Trial:
     def look(self, name, kind, image, promise):
         tar, why = self.logs(image)
         if not why:
-            self.looks.append((name, kind, self.pool.submit(self.looker.look, tar, promise), image, tar, promise))
+            self.looks.append(
+                (name, kind, self.pool.submit(self.looker.look, tar, promise), image, tar, promise)
+            )
             return self.collect(4 * LOOKS)
         finding = Finding()
         finding.refused.append(why)
@@ -139,7 +156,8 @@ class Trial:
         return None
 
     def logs(self, image):
-        """Lets the guest mount an image. Returns the directory as an archive, and why there is none."""
+        """Lets the guest mount an image. Returns the directory as an archive, and why there is
+        none."""
         try:
             messages, _ = self.job(f"look {self.kind.name} {self.asked.mount}", image)
         except Dead as why:
@@ -152,11 +170,13 @@ class Trial:
         return None, f"{' '.join(told.words)}: {told.data.decode(errors='replace')}"
 
     def repair(self, finding, image, promise):
-        """Repairs an image that cannot be mounted, by the file system's own program, and looks what is lost. It stays
-        refused."""
+        """Repairs an image that cannot be mounted, by the file system's own program, and looks what
+        is lost. It stays refused."""
         path = self.room / "repaired.raw"
         image.save(path)
-        subprocess.run([path_of(self.kind.repair[0]), *self.kind.repair[1:], path], capture_output=True)
+        subprocess.run(
+            [path_of(self.kind.repair[0]), *self.kind.repair[1:], path], capture_output=True
+        )
         tar, why = self.logs(Image(Base(path)))
         path.unlink()
         looked = Finding() if why else self.looker.look(tar, promise)
@@ -166,10 +186,14 @@ class Trial:
         return tar
 
     def recover(self, name, kind, image, promise):
-        """Lets the guest open and compact the directory, on a full disk too, and cuts it off there too."""
+        """Lets the guest open and compact the directory, on a full disk too, and cuts it off there
+        too."""
         crowd, look, compaction = self.recovery(promise)
         runs = [*crowd.runs, look, compaction]
-        job = f"{crowd.job()}rm -f /mnt/filler.*\nlook() {{\n{look.job()}}}\nuntil_opened\n{compaction.job()}"
+        job = (
+            f"{crowd.job()}rm -f /mnt/filler.*\nlook() {{\n{look.job()}}}\nuntil_opened\n"
+            f"{compaction.job()}"
+        )
         finding = Finding()
         try:
             messages, recording = self.job(self.with_syncs(f"{self.mount()} || exit\n{job}"), image)
@@ -196,13 +220,16 @@ class Trial:
         finding.ways_on = begun.count(look.number) - 1
         looked = fault_runs.Looked(promise.must, promise.may, promise.dead)
         if not finding.refused and compaction.number in ends:
-            looked.compare(look.found(ends[look.number].data.decode(errors="replace")), "opened in the machine")
+            looked.compare(
+                look.found(ends[look.number].data.decode(errors="replace")), "opened in the machine"
+            )
         elif not finding.refused:
             finding.refused.append("the recovery did not end")
         finding.lost += looked.lost
 
     def recovery(self, promise):
-        """The runs that recover a directory: those on a full disk, one that reads every entry, and a compaction."""
+        """The runs that recover a directory: those on a full disk, one that reads every entry, and
+        a compaction."""
         story = Story(self.chance, self.asked, 0)
         story.dead = sorted(promise.dead)
         entries = {**promise.may, **promise.must}

@@ -3,10 +3,12 @@
 
 usage: tools/report/report_pictures.py DIR [COUNT..]     COUNT: numbers of logs, else 1 30 3000
 
-Writes DIR/COUNT.html, the page of a made-up directory, which the toolchain makes from the sources without a proof; then
-DIR/COUNT-light.png and DIR/COUNT-dark.png, and DIR/COUNT.pdf as it is printed. The browser is $BROWSER, else chromium.
+Writes DIR/COUNT.html, the page of a made-up directory, which the toolchain makes from the sources
+without a proof; then DIR/COUNT-light.png and DIR/COUNT-dark.png, and DIR/COUNT.pdf as it is
+printed. The browser is $BROWSER, else chromium.
 
-       tools/report/report_pictures.py --page FILE      writes the picture of the operator's page, docs/report.png
+       tools/report/report_pictures.py --page FILE      writes the picture of the operator's page,
+                                                        docs/report.png
 """
 
 import os
@@ -39,7 +41,14 @@ def page(count):
 
 def browse(*words):
     browser = os.environ.get("BROWSER", "chromium")
-    command = [browser, "--headless=new", "--no-sandbox", "--disable-gpu", "--hide-scrollbars", *words]
+    command = [
+        browser,
+        "--headless=new",
+        "--no-sandbox",
+        "--disable-gpu",
+        "--hide-scrollbars",
+        *words,
+    ]
     ran = subprocess.run(command, capture_output=True, text=True)
     if ran.returncode != 0:
         sys.exit(ran.stderr)
@@ -62,7 +71,11 @@ def take(folder, count):
     file.write_bytes(page(count))
     for scheme in SCHEMES:
         picture(file, scheme, 1900 if count < 10 else 3600, folder / f"{count}-{scheme}.png")
-    browse(f"--print-to-pdf={folder / f'{count}.pdf'}", "--no-pdf-header-footer", file.resolve().as_uri())
+    browse(
+        f"--print-to-pdf={folder / f'{count}.pdf'}",
+        "--no-pdf-header-footer",
+        file.resolve().as_uri(),
+    )
 
 
 def main(words):

@@ -1,10 +1,13 @@
-"""Sends bk_serve sessions of requests by chance, all sent ahead, and compares each reply with a model: for ./dev faults --serve --ahead.
+"""Sends bk_serve sessions of requests by chance, all sent ahead, and compares each reply with a
+model: for ./dev faults --serve --ahead.
 
-Reads, pages and look-ups stand between adds, deletions, fences, flushes, seals and compactions of few ledgers, and now and then
-many reads follow one another. The model (bindings/model.py) carries the same requests out in their order. Every request has to
-be answered once, in the order of the requests; but where threads share the reads, as in two of three sessions, the reply to an
-add may come before those to earlier reads. In half of these sessions each read of a file waits as on a slow device, so that
-threads carry reads out. In every other session the server compacts in the background.
+Reads, pages and look-ups stand between adds, deletions, fences, flushes, seals and compactions of
+few ledgers, and now and then many reads follow one another. The model (bindings/model.py) carries
+the same requests out in their order. Every request has to be answered once, in the order of the
+requests; but where threads share the reads, as in two of three sessions, the reply to an add may
+come before those to earlier reads. In half of these sessions each read of a file waits as on a slow
+device, so that threads carry reads out. In every other session the server compacts in the
+background.
 """
 
 import bisect
@@ -27,7 +30,9 @@ REQUESTS, TOGETHER = 2000, 10
 LEDGERS, ENTRIES = range(1, 9), range(12)
 LAST_ID = 2**63 - 1
 # What an opening notes of a log from whose start on nothing is durable.
-NOTE = re.compile(rb"note log (\d+): \d+ bytes ignored from position 0: (log never durable|not durable)")
+NOTE = re.compile(
+    rb"note log (\d+): \d+ bytes ignored from position 0: (log never durable|not durable)"
+)
 # What is told by numbers that depend on the logs: the status alone is compared.
 BY_STATUS = ("compact", "seal")
 ADDS = ("add", "add_recovery")
@@ -49,7 +54,8 @@ def content_of(chance):
 
 
 def request_of(chance, calls, trail):
-    """Returns one of these calls and its fields. Receipts are of the marks that the trail has by now."""
+    """Returns one of these calls and its fields. Receipts are of the marks that the trail has by
+    now."""
     ledger, entry = chance.choice(LEDGERS), chance.choice(ENTRIES)
     if chance.randrange(200) == 0:
         ledger = LAST_ID + 1
@@ -60,7 +66,11 @@ def request_of(chance, calls, trail):
         return name, {"ledger": ledger, "entry": entry}
     if name == "read_back":
         number = chance.randrange(len(trail) + 2)
-        mark = trail[number] if number < len(trail) and len(trail[number]) == 3 else (ledger, entry, bytes(32))
+        mark = (
+            trail[number]
+            if number < len(trail) and len(trail[number]) == 3
+            else (ledger, entry, bytes(32))
+        )
         return name, {"number": number, "ledger": mark[0], "entry": mark[1], "digest": mark[2]}
     if name == "entries":
         return name, {"ledger": ledger, "from": entry, "most": chance.randrange(20)}
@@ -74,7 +84,8 @@ def request_of(chance, calls, trail):
 
 
 def told(status, numbers, tail):
-    """Returns the frame's bytes after the id, from the numbers and bytes of a reply of the model."""
+    """Returns the frame's bytes after the id, from the numbers and bytes of a reply of the
+    model."""
     return bytes([status]) + b"".join(it.to_bytes(8, "big") for it in numbers) + tail
 
 
@@ -104,11 +115,19 @@ class Ahead:
         kept = model.Model(str(beside))
         # An opening fences the ledgers again.
         kept.trail = [(ledger, "fence") for ledger in kept.fenced]
-        data, wanted, id = frames.encode(frames.BY_NAME["hello"], 0, {"magic": frames.MAGIC, "lowest": 1, "highest": 1}), {}, 0
+        data, wanted, id = (
+            frames.encode(
+                frames.BY_NAME["hello"], 0, {"magic": frames.MAGIC, "lowest": 1, "highest": 1}
+            ),
+            {},
+            0,
+        )
         compacts, reads = number % 2 == 0, 0
         for _ in range(self.chance.randrange(1, REQUESTS)):
             id += self.chance.randrange(1, 3)
-            reads = max(reads - 1, 0) or (self.chance.randrange(200) if self.chance.randrange(100) == 0 else 0)
+            reads = max(reads - 1, 0) or (
+                self.chance.randrange(200) if self.chance.randrange(100) == 0 else 0
+            )
             name, fields = request_of(self.chance, READS if reads else CALLS, kept.trail)
             frame = frames.encode(frames.BY_NAME[name], id, fields)
             data += frame
@@ -116,10 +135,22 @@ class Ahead:
         kept.flush()
         kept.file.close()
         readers = READERS[number % len(READERS)]
-        words = [self.path, str(folder), *(["--compact", "20,80"] if compacts else []), "--readers", str(readers)]
+        words = [
+            self.path,
+            str(folder),
+            *(["--compact", "20,80"] if compacts else []),
+            "--readers",
+            str(readers),
+        ]
         is_slow = readers > 1 and number // len(READERS) % SLOW == 0
-        slow = {"LD_PRELOAD": self.library, "FAULT_FOLDER": str(folder), "FAULT_SLOW": str(WAITS)} if is_slow else {}
-        run = subprocess.run(words, input=data, capture_output=True, timeout=SECONDS, env={**os.environ, **slow})
+        slow = (
+            {"LD_PRELOAD": self.library, "FAULT_FOLDER": str(folder), "FAULT_SLOW": str(WAITS)}
+            if is_slow
+            else {}
+        )
+        run = subprocess.run(
+            words, input=data, capture_output=True, timeout=SECONDS, env={**os.environ, **slow}
+        )
         self.judge(number, run, wanted, compacts, readers)
 
     def judge(self, number, run, wanted, compacts, readers):
@@ -141,26 +172,36 @@ class Ahead:
             return self.tell(number, f"the reply to {late} is out of order")
         for id, (name, reply) in wanted.items():
             if not self.is_same(name, found[id], reply, compacts):
-                return self.tell(number, f"the reply to {name} {id} is {self.text(found[id])}, and not {self.text(reply)}")
+                return self.tell(
+                    number,
+                    f"the reply to {name} {id} is {self.text(found[id])}, and not "
+                    f"{self.text(reply)}",
+                )
 
     def out_of_order(self, order, wanted, readers):
         """Returns the first id whose reply came before one that it may not overtake."""
         waiting = sorted(order)
         for id in order:
             at = bisect.bisect_left(waiting, id)
-            if at and (readers == 1 or wanted[id][0] not in ADDS or any(wanted[it][0] not in READS for it in waiting[:at])):
+            if at and (
+                readers == 1
+                or wanted[id][0] not in ADDS
+                or any(wanted[it][0] not in READS for it in waiting[:at])
+            ):
                 return id
             self.overtook += at > 0
             del waiting[at]
         return None
 
     def allows(self, number, errors):
-        """Whether the error stream has nothing but notes of logs that hold nothing that was promised.
+        """Whether the error stream has nothing but notes of logs that hold nothing that was
+        promised.
 
-        A session that compacts in the background may end while a log is being copied. The log that it copies to has been
-        created, and was never synced: its bytes are copies, and the index points to the log that they were copied from. The
-        next opening notes it as never durable, and later ones of the directory, which keep it hidden, as not durable. There is
-        no such log in the first session of a directory, nor another one after a session that did not compact.
+        A session that compacts in the background may end while a log is being copied. The log that
+        it copies to has been created, and was never synced: its bytes are copies, and the index
+        points to the log that they were copied from. The next opening notes it as never durable,
+        and later ones of the directory, which keep it hidden, as not durable. There is no such log
+        in the first session of a directory, nor another one after a session that did not compact.
         """
         for line in errors.splitlines():
             note = NOTE.fullmatch(line)
@@ -176,8 +217,11 @@ class Ahead:
     @staticmethod
     def is_same(name, found, wanted, compacts):
         if name == "stats":
-            # The bytes in the caches, the entries of the index, the front, the leases and the failures; the logs depend on more.
-            return found[0] == wanted[0] and all(found[at : at + 8] == wanted[at : at + 8] for at in (25, 33, 57, 65, 73))
+            # The bytes in the caches, the entries of the index, the front, the leases and the
+            # failures; the logs depend on more.
+            return found[0] == wanted[0] and all(
+                found[at : at + 8] == wanted[at : at + 8] for at in (25, 33, 57, 65, 73)
+            )
         if name == "seal":
             return found[0] in (51, 52)
         if name == "compact" and wanted[0] == 49:
@@ -192,7 +236,8 @@ class Ahead:
 
 
 def run(path, top, sessions, seed, library):
-    """Sends so many sessions. Returns the number of findings, of replies, and of those that overtook."""
+    """Sends so many sessions. Returns the number of findings, of replies, and of those that
+    overtook."""
     it = Ahead(path, top, seed, library)
     for number in range(1, sessions + 1):
         if number % TOGETHER == 1:

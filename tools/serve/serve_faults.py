@@ -1,12 +1,13 @@
 """Fails each call of the system in turn while bk_serve answers a session: for ./dev faults --serve.
 
-The session publishes entries, deletes and fences ledgers and stores master keys, and goes on after each refusal. Later
-sessions, on the files as they are and on what a power loss would leave, have to find what was answered: entries that were
-published after a refused deletion too, and no entry of a ledger whose deletion was answered. After a `close` that was refused
-the exit status has to be 1. A log is sealed before the session and one in it, so calls on their hints fail too.
+The session publishes entries, deletes and fences ledgers and stores master keys, and goes on after
+each refusal. Later sessions, on the files as they are and on what a power loss would leave, have to
+find what was answered: entries that were published after a refused deletion too, and no entry of a
+ledger whose deletion was answered. After a `close` that was refused the exit status has to be 1. A
+log is sealed before the session and one in it, so calls on their hints fail too.
 
-In further sessions reads fail that are sent ahead and that threads share. Each has to be answered in its turn, by its entry or
-by `disk`, and one failing call is told once.
+In further sessions reads fail that are sent ahead and that threads share. Each has to be answered
+in its turn, by its entry or by `disk`, and one failing call is told once.
 """
 
 import io
@@ -38,7 +39,12 @@ KINDS = (
     (fault_runs.WRITING, "kill", False),
 )
 # How reads fail that threads share, how many threads do, and how often each entry is read.
-READ_KINDS = (("read", "EIO", False), ("read", "EIO", True), ("read", "short", False), ("read", "EINTR", False))
+READ_KINDS = (
+    ("read", "EIO", False),
+    ("read", "EIO", True),
+    ("read", "short", False),
+    ("read", "EINTR", False),
+)
 READERS, TIMES, SECONDS = 4, 4, 60
 NO_REPLY = "no reply"
 
@@ -67,7 +73,8 @@ class Known:
             self.accepted = {}
 
     def deleted(self, ledger, answer):
-        """A deletion that was refused may hold for the entries that were there, and for no later one."""
+        """A deletion that was refused may hold for the entries that were there, and for no later
+        one."""
         for entries in (self.must, self.accepted):
             for key in [it for it in entries if it[0] == ledger]:
                 self.may[key] = entries.pop(key)
@@ -139,7 +146,8 @@ def flush(session, known):
 
 
 def run_steps(session, known):
-    """The session: each deletion, fence and key is followed by adds, which count where they are accepted and published."""
+    """The session: each deletion, fence and key is followed by adds, which count where they are
+    accepted and published."""
     for ledger in (1, 2, 3, 4):
         add(session, known, ledger, 10)
     flush(session, known)
@@ -214,15 +222,28 @@ class Server:
         }  # fmt: skip
 
     def read(self, fault):
-        """Serves reads that are sent ahead, with a fault. Returns what is wrong, and the calls that counted."""
+        """Serves reads that are sent ahead, with a fault. Returns what is wrong, and the calls that
+        counted."""
         environment, asked = self.begin(fault), dict(enumerate(sorted(self.entries) * TIMES, 1))
-        data = frames.encode(frames.BY_NAME["hello"], 0, {"magic": frames.MAGIC, "lowest": 1, "highest": 1})
+        data = frames.encode(
+            frames.BY_NAME["hello"], 0, {"magic": frames.MAGIC, "lowest": 1, "highest": 1}
+        )
         for id, (ledger, entry) in asked.items():
             data += frames.encode(frames.BY_NAME["read"], id, {"ledger": ledger, "entry": entry})
         words = [self.path, str(self.room.logs), "--readers", str(READERS)]
-        ran = subprocess.run(words, input=data, capture_output=True, timeout=SECONDS, env={**os.environ, **environment})
+        ran = subprocess.run(
+            words,
+            input=data,
+            capture_output=True,
+            timeout=SECONDS,
+            env={**os.environ, **environment},
+        )
         (_, first), *replies = replies_of(ran.stdout)
-        wrong = list(wrong_reads(asked, self.entries, replies, fault.stays)) if first.name == "welcome" else []
+        wrong = (
+            list(wrong_reads(asked, self.entries, replies, fault.stays))
+            if first.name == "welcome"
+            else []
+        )
         return wrong, self.room.trace.read_text().splitlines()
 
     def run(self, fault):
@@ -237,13 +258,16 @@ class Server:
             session.close()
         except bookie.Refused:
             if session.process.returncode != 1:
-                known.wrong.append(f"the exit status after a refused close is {session.process.returncode}")
+                known.wrong.append(
+                    f"the exit status after a refused close is {session.process.returncode}"
+                )
         except bookie.Ended:
             session.kill()
         return known, self.room.trace.read_text().splitlines()
 
     def look(self, known, files):
-        """Returns how a later session on these files differs from what is known, or that there is none."""
+        """Returns how a later session on these files differs from what is known, or that there is
+        none."""
         folder = self.room.lay(files)
         for _ in range(20):
             try:
@@ -251,7 +275,9 @@ class Server:
                 break
             except (bookie.Refused, bookie.Ended) as why:
                 ran = self.shell.call(["script", "--folder", folder])
-                trouble = f"{why}" if ran.status == 0 else fault_runs.way_on(self.shell, folder, ran)
+                trouble = (
+                    f"{why}" if ran.status == 0 else fault_runs.way_on(self.shell, folder, ran)
+                )
                 if trouble:
                     return [], f"a later session: {trouble}"
         else:
@@ -262,11 +288,16 @@ class Server:
 
 def numbers(calls, kinds, is_quick, few):
     found = sum(line.split()[0] in kinds.split(",") for line in calls)
-    return sorted({1 + index * found // few for index in range(few)}) if is_quick else range(1, found + 1)
+    return (
+        sorted({1 + index * found // few for index in range(few)})
+        if is_quick
+        else range(1, found + 1)
+    )
 
 
 def run_reads(server, is_quick, few):
-    """Tries all faults of reads that threads share. Prints each finding, and returns the number of faults and of findings."""
+    """Tries all faults of reads that threads share. Prints each finding, and returns the number of
+    faults and of findings."""
     wrong, calls = server.read(fault_runs.NO_FAULT)
     faults, lost = 0, 0
     for why in wrong:
@@ -283,7 +314,8 @@ def run_reads(server, is_quick, few):
 
 
 def run(path, shell, top, is_quick, few):
-    """Tries all faults. Prints each finding, and returns the number of faults, of losses and of dead ends."""
+    """Tries all faults. Prints each finding, and returns the number of faults, of losses and of
+    dead ends."""
     server = Server(path, shell, top, fault_runs.Room(shell, top))
     server.fill()
     usual, calls = server.run(fault_runs.NO_FAULT)
@@ -298,7 +330,10 @@ def run(path, shell, top, is_quick, few):
             if not hits:
                 continue
             faults += 1
-            images = {"after the fault": server.room.written(), "after a power loss": server.room.images()["synced"] or {}}
+            images = {
+                "after the fault": server.room.written(),
+                "after a power loss": server.room.images()["synced"] or {},
+            }
             for where, files in images.items():
                 differences, trouble = server.look(known, files)
                 hit = hits[0].replace(str(server.room.work), "..")

@@ -1,9 +1,11 @@
-"""Sends bk_serve sessions that end by a damaged or hostile frame: for ./dev faults --serve --hostile.
+"""Sends bk_serve sessions that end by a damaged or hostile frame: for ./dev faults --serve
+--hostile.
 
-Each session begins with requests that are answered. Then a frame is cut, too long, too short, of an unknown call, of wrong
-fields, of an id that does not rise, a second hello, or bytes by chance. The server has to answer what came before, to end by the
-fault that bindings/protocol.md names, and to keep what it answered. Every other session compacts in the background. In every
-third one threads share reads, which may stand right before that frame.
+Each session begins with requests that are answered. Then a frame is cut, too long, too short, of an
+unknown call, of wrong fields, of an id that does not rise, a second hello, or bytes by chance. The
+server has to answer what came before, to end by the fault that bindings/protocol.md names, and to
+keep what it answered. Every other session compacts in the background. In every third one threads
+share reads, which may stand right before that frame.
 """
 
 import random
@@ -51,7 +53,9 @@ def unknown(chance, id, last):
 
 
 def wrong_fields(chance, id, last):
-    kind, wanted = chance.choice(((4, 16), (7, 8), (8, 16), (9, 24), (10, 16), (11, 8), (13, 8), (18, 0), (20, 16), (23, 0)))
+    kind, wanted = chance.choice(
+        ((4, 16), (7, 8), (8, 16), (9, 24), (10, 16), (11, 8), (13, 8), (18, 0), (20, 16), (23, 0))
+    )
     size = chance.choice([it for it in range(60) if it != wanted])
     return raw(id, kind, bytes(size)), (id, "bad_fields", kind, size)
 
@@ -103,7 +107,9 @@ class Hostile:
         """Sends one session, which first reads entries of earlier ones."""
         tail, data, wanted = self.chance.choice(TAILS), HELLO, [(0, "welcome")]
         last, shares, keys = 0, number % 3 == 0, sorted(self.kept)
-        for key in self.chance.choices(keys, k=self.chance.randrange(60) if shares else 2) if keys else ():
+        for key in (
+            self.chance.choices(keys, k=self.chance.randrange(60) if shares else 2) if keys else ()
+        ):
             last += self.chance.randrange(1, 9)
             data += request(last, "read", ledger=key[0], entry=key[1])
             wanted.append((last, self.kept[key]))
@@ -114,8 +120,12 @@ class Hostile:
             wanted.append((last, "accepted"))
             self.kept[number, entry] = content
         bad, end = tail(self.chance, last + self.chance.randrange(1, 9), last)
-        words = (["--compact", "20,80"] if number % 2 == 0 else []) + (["--readers", "4"] if shares else [])
-        run = subprocess.run([self.path, str(folder), *words], input=data + bad, capture_output=True, timeout=SECONDS)
+        words = (["--compact", "20,80"] if number % 2 == 0 else []) + (
+            ["--readers", "4"] if shares else []
+        )
+        run = subprocess.run(
+            [self.path, str(folder), *words], input=data + bad, capture_output=True, timeout=SECONDS
+        )
         self.judge(tail, run, wanted, end)
 
     def judge(self, tail, run, wanted, end):
@@ -124,8 +134,14 @@ class Hostile:
         except (frames.Fault, IndexError) as why:
             return self.tell(tail, f"a reply that is none: {why}")
         # Replies to reads may overtake others.
-        for (id, what), (found, reply) in zip(wanted, sorted(replies[: len(wanted)], key=lambda it: it[0])):
-            is_right = reply.name == what if isinstance(what, str) else reply.name == "entry" and reply.content == what
+        for (id, what), (found, reply) in zip(
+            wanted, sorted(replies[: len(wanted)], key=lambda it: it[0])
+        ):
+            is_right = (
+                reply.name == what
+                if isinstance(what, str)
+                else reply.name == "entry" and reply.content == what
+            )
             if id != found or not is_right:
                 return self.tell(tail, f"reply {found} is {reply.name}, and not {id} {what!r:.40}")
         if len(replies) < len(wanted):
