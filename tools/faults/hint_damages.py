@@ -9,7 +9,7 @@ import struct
 from pathlib import Path
 
 import hint_files
-from hint_files import AGAIN, BEGIN, FRONT, HEAD, packed, signed, unpacked
+from hint_files import AGAIN, BEGIN, FRONT, packed, signed, unpacked
 
 
 class Logs:

@@ -10,9 +10,9 @@ import tempfile
 from concurrent.futures import ThreadPoolExecutor
 from pathlib import Path
 
-import entry_logs
 import hint_files
 from hint_damages import BYTES, PLACES, Logs, link_to_nothing
+from hint_logs import FOLDERS, strange_log
 
 SECONDS = 300
 # How many runs of the program are made at once, and how many of the damages that no check but one
@@ -20,42 +20,12 @@ SECONDS = 300
 AT_ONCE, ALONE = 2, 100
 # One of so many damages is of what is in the place of a hint.
 PLACE = 50
-DEAD = 5
 LEDGERS = range(8)
 # How many entries a script reads, and after how many damages the progress is told.
 READ, STRIDE = 60, 5000
 REFUSED, RIGHT = "refused", "right"
 NOTE = re.compile(r"note hint not used: log (\d+): (.*)")
 LIMIT = "2048"
-
-
-def payloads(chance, count, sizes, ledgers):
-    """Steps that add so many entries, in flushes of some, and delete a ledger."""
-    ids, steps, size = collections.Counter(), [], 0
-    for number in range(count):
-        ledger = chance.choice(ledgers)
-        steps.append(f"add {ledger} {ids[ledger]} {'x' * chance.choice(sizes)}".rstrip())
-        ids[ledger] += 1
-        size += 1
-        if size == 40 or number == count - 1:
-            steps += ["swap", *["write"] * size, "publish"]
-            size = 0
-    return [*steps, f"delete {DEAD}", "roll"]
-
-
-def many_sizes(chance):
-    return payloads(chance, 700, (0, 1, 20, 100, 101, 300), range(1, 7))
-
-
-def one_size(chance):
-    return payloads(chance, 1500, (44,), range(1, 7))
-
-
-def one_ledger(chance):
-    return payloads(chance, 600, (10, 50, 50, 50, 200), (3, DEAD))
-
-
-FOLDERS = {"many sizes": many_sizes, "one size": one_size, "one ledger": one_ledger}
 
 
 class Folder:
@@ -163,54 +133,6 @@ class Folder:
 def steps_in(steps):
     """The parts of a script: three steps that read an entry, or one."""
     return re.findall(r"take.*\nfetch.*\nrelease.*\n|.*\n", steps)
-
-
-def strange_log(chance):
-    records, sizes = [], collections.Counter()
-    for _ in range(chance.randrange(1, 12)):
-        ledger, entry, data = (
-            chance.randrange(1, 7),
-            chance.randrange(40),
-            chance.randbytes(chance.randrange(60)),
-        )
-        record = (
-            (len(data) + 16).to_bytes(4, "big")
-            + ledger.to_bytes(8, "big")
-            + entry.to_bytes(8, "big")
-            + data
-        )
-        for _ in range(chance.choice((1, 1, 2))):
-            records.append(record)
-            sizes[ledger] += len(record)
-        if chance.random() < 0.2:
-            records.append(
-                (20).to_bytes(4, "big")
-                + (-7).to_bytes(8, "big", signed=True)
-                + chance.randbytes(12)
-            )
-    pairs = b"".join(
-        ledger.to_bytes(8, "big") + size.to_bytes(8, "big")
-        for ledger, size in sorted(sizes.items())
-    )
-    batch = (
-        (20 + len(pairs)).to_bytes(4, "big")
-        + (-1).to_bytes(8, "big", signed=True)
-        + (-2).to_bytes(8, "big", signed=True)
-    )
-    body = b"".join(records)
-    header = (
-        b"BKLO"
-        + (1).to_bytes(4, "big")
-        + (entry_logs.HEADER + len(body)).to_bytes(8, "big")
-        + len(sizes).to_bytes(4, "big")
-    )
-    return (
-        header.ljust(entry_logs.HEADER, b"\0")
-        + body
-        + batch
-        + len(sizes).to_bytes(4, "big")
-        + pairs
-    )
 
 
 class Program:

@@ -25,9 +25,8 @@ def options_of(command):
     return [*command.options, *json, Option("help", None, "Print help")]
 
 
-def in_bash(table):
-    """The completion for bash: commands first, then options, values of a choice, and files."""
-    names = " ".join(it.name for it in table)
+def cases_in_bash(table):
+    """The cases of bash: the options by the command, and the values by command and option."""
     words, values = [], []
     for it in table[:-1]:
         options = " ".join(f"--{option.name}" for option in options_of(it))
@@ -36,6 +35,13 @@ def in_bash(table):
             if option.value and option.value not in FILES:
                 among = " ".join(option.choice)
                 values.append(f"    {it.name},--{option.name}) values='{among}' ;;")
+    return "\n".join(words), "\n".join(values)
+
+
+def in_bash(table):
+    """The completion for bash: commands first, then options, values of a choice, and files."""
+    words, values = cases_in_bash(table)
+    names = " ".join(it.name for it in table)
     general = " ".join(f"--{it.name}" for it in GENERAL)
     return f"""# {MADE}
 
@@ -52,10 +58,10 @@ _bookie() {{
     case $command in
     '') words='{names} {general}' ;;
     help) words='{names}' ;;
-{chr(10).join(words)}
+{words}
     esac
     case $command,$before in
-{chr(10).join(values)}
+{values}
     esac
     if [[ $values != - ]]; then
         compopt +o default
