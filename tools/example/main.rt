@@ -25,7 +25,9 @@ use thiserror::Error;
 // end: imports
 
 const LEDGER: u64 = 1;
+
 const WRITTEN: [&str; 3] = ["first", "second", "third"];
+
 const MISSING: &str = "last";
 
 // begin: settings
@@ -62,6 +64,8 @@ enum Fault {
     Entry(u64),
     #[error("{0}")]
     Io(io::Error),
+    #[error("usage: bk_example DIR")]
+    Usage,
     #[error("memory")]
     Memory,
 }
@@ -195,7 +199,9 @@ impl Session {
                 lease.release().end();
                 found.map_err(|fault| match fault {
                     FetchFault::Memory => Fault::Memory,
-                    FetchFault::Disk | FetchFault::NotThere | FetchFault::Odd => Fault::Entry(entry),
+                    FetchFault::Disk | FetchFault::NotThere | FetchFault::Odd => Fault::Entry(
+                        entry,
+                    ),
                 })
             }
             Ok(Taken::NotHeld | Taken::Deleted) => Err(Fault::Entry(entry)),
@@ -218,7 +224,10 @@ fn write(rt: &HostRuntime, path: &str) -> Result<(), Fault> {
         let [a, b, c, d, ..] = receipt.digest;
         let payload = session.read(receipt.key.entry())?;
         let is_same = Sha256::digest(&payload) == receipt.digest;
-        println!(rt; "receipt {} {a:02x}{b:02x}{c:02x}{d:02x} {is_same}", receipt.key.entry())?;
+        println!(rt;
+            "receipt {} {a:02x}{b:02x}{c:02x}{d:02x} {is_same}",
+            receipt.key.entry()
+        )?;
     }
     Ok(())
 }
@@ -227,7 +236,10 @@ fn write(rt: &HostRuntime, path: &str) -> Result<(), Fault> {
 fn recover(rt: &HostRuntime, path: &str) -> Result<(), Fault> {
     let mut session = open(rt, path)?;
     println!(rt; "fenced {}", session.fence()?)?;
-    let entry = session.store.last_entry(LEDGER).map_or(0, |last| last.saturating_add(1));
+    let entry = session
+        .store
+        .last_entry(LEDGER)
+        .map_or(0, |last| last.saturating_add(1));
     if let Err(Fault::Add(fault)) = session.add(AddKind::Ordinary, entry, "of the first writer") {
         println!(rt; "refused {fault}")?;
     }
@@ -253,7 +265,7 @@ fn read(rt: &HostRuntime, path: &str) -> Result<(), Fault> {
 // begin: main
 fn run(rt: &HostRuntime) -> Result<(), Fault> {
     let Some(path) = env::args(rt)?.nth(1) else {
-        return Ok(());
+        return Err(Fault::Usage);
     };
     fs::create_dir(rt, &path)?;
     write(rt, &path)?;
