@@ -95,8 +95,8 @@ class Beside(Case):
         return keys, deleted, fenced
 
     def check_logs(self, copy):
-        """A log that was sealed meanwhile has a header that names a map which is not shown; no other
-        fault is found, and `seal` mends it."""
+        """A log that was sealed meanwhile has a header that names a map which is not shown; no
+        other fault is found, and `seal` mends it."""
         ran = self.call("check", copy)
         wrong = [it.split() for it in ran.stdout.decode().splitlines() if " fault " in it]
         for log, _, *fault in wrong:
@@ -119,8 +119,8 @@ class Beside(Case):
         self.assertEqual([it for it in os.listdir(self.logs) if it.startswith("backup.")], [])
 
     def copies_once(self, load, copy):
-        """Copies beside the load, which then waits, and checks the copy. Returns whether it was made:
-        not if a log was removed before it had its second name, which is reported."""
+        """Copies beside the load, which then waits, and checks the copy. Returns whether it was
+        made: not if a log was removed before it had its second name, which is reported."""
         published, deleted, fenced = load.now()
         status, told = backup(self.logs, copy)
         load.gate.clear()
@@ -158,12 +158,16 @@ class Orders(Case):
                 shutil.copy2(it, copy)
         return copy
 
+    def faults(self, copy):
+        """What `manifest --check` reports of a copy at fault."""
+        return self.bookie("manifest", "--check", copy, status=1)[1]
+
     def test_manifest_after_logs(self):
         self.script("add 1 0 hello", "swap", "write", "publish")
         self.copy("*.log")
         self.script("add 1 1 hello", "swap", "write", "publish")
         copy = self.copy("*.manifest")
-        self.assertIn("durable bytes missing", self.bookie("manifest", "--check", copy, status=1)[1])
+        self.assertIn("durable bytes missing", self.faults(copy))
         self.bookie("script", "--folder", copy, status=1)
 
     def test_log_removed_meanwhile(self):
@@ -171,7 +175,7 @@ class Orders(Case):
         self.copy("logs.manifest")
         self.bookie("compact", "--dead", 1, self.logs)
         copy = self.copy("*.log", "ledgers.manifest")
-        self.assertIn("durable bytes missing", self.bookie("manifest", "--check", copy, status=1)[1])
+        self.assertIn("durable bytes missing", self.faults(copy))
 
     def test_no_manifest(self):
         self.publish("1 0 a")
