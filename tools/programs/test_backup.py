@@ -110,7 +110,8 @@ class Beside(Case):
         made = 0
         for number in range(COPIES):
             load.gate.set()
-            is_far = wait_until(lambda: len(load.published) >= 500 * (number + 1) or load.fault)
+            count = 300 * (number + 1)
+            is_far = wait_until(lambda: len(load.published) >= count or load.fault, 10 * LIMIT)
             self.assertTrue(is_far)
             made += self.copies_once(load, self.room / f"copy{number}")
         load.end()
