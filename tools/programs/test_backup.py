@@ -7,7 +7,8 @@ import threading
 
 from kit import LIMIT, TOP, Case, Programs, compact_words, wait_until
 
-# Copies that are made beside one load, and the bytes of a log of it.
+# Copies that are made beside one load, and the bytes of a log of it. Much is written between two
+# steps of a copy, since `cp` waits before it begins.
 COPIES, LOG = 3, 40_000
 # Entries of a ledger, without the one that is added to a fenced one.
 COUNT = 12
@@ -68,9 +69,21 @@ class Load(threading.Thread):
         self.join(LIMIT)
 
 
-def backup(logs, copy):
+WAITS = "#!/bin/sh\nsleep 1\nexec {cp} \"$@\"\n"
+
+
+def waiting_path(room):
+    """Returns a path of programs on which `cp` waits first."""
+    program = room / "bin" / "cp"
+    program.parent.mkdir()
+    program.write_text(WAITS.format(cp=shutil.which("cp")))
+    program.chmod(0o755)
+    return f"{program.parent}:{os.environ['PATH']}"
+
+
+def backup(logs, copy, path=os.environ["PATH"]):
     """Runs the tool. Returns its status and what it prints."""
-    env = {**os.environ, "BOOKIE": str(Programs.shell)}
+    env = {**os.environ, "BOOKIE": str(Programs.shell), "PATH": path}
     words = [str(TOP / "tools" / "backup"), str(logs), str(copy)]
     how = {"stdout": subprocess.PIPE, "stderr": subprocess.STDOUT, "text": True}
     ran = subprocess.run(words, env=env, timeout=LIMIT, **how)
@@ -107,7 +120,7 @@ class Beside(Case):
     def test_copies(self):
         load = Load(self.serve("--log-limit", LOG, *compact_words(200, 800)))
         load.start()
-        made = 0
+        made, self.path = 0, waiting_path(self.room)
         for number in range(COPIES):
             load.gate.set()
             count = 300 * (number + 1)
@@ -116,14 +129,14 @@ class Beside(Case):
             made += self.copies_once(load, self.room / f"copy{number}")
         load.end()
         self.assertIsNone(load.fault)
-        self.assertGreater(made, 0)
+        self.assertGreaterEqual(made, COPIES - 1)
         self.assertEqual([it for it in os.listdir(self.logs) if it.startswith("backup.")], [])
 
     def copies_once(self, load, copy):
         """Copies beside the load, which then waits, and checks the copy. Returns whether it was
         made: not if a log was removed before it had its second name, which is reported."""
         published, deleted, fenced = load.now()
-        status, told = backup(self.logs, copy)
+        status, told = backup(self.logs, copy, self.path)
         load.gate.clear()
         self.assertIsNone(load.fault)
         if status:
