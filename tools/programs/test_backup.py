@@ -86,7 +86,7 @@ def backup(logs, copy, path=os.environ["PATH"]):
     env = {**os.environ, "BOOKIE": str(Programs.shell), "PATH": path}
     words = [str(TOP / "tools" / "backup"), str(logs), str(copy)]
     how = {"stdout": subprocess.PIPE, "stderr": subprocess.STDOUT, "text": True}
-    ran = subprocess.run(words, env=env, timeout=LIMIT, **how)
+    ran = subprocess.run(words, env=env, timeout=10 * LIMIT, **how)
     return ran.returncode, ran.stdout
 
 
