@@ -161,7 +161,7 @@ class Beside(Case):
 
 
 class Orders(Case):
-    """What a copy in another order lacks is reported."""
+    """What a copy in another order lacks is reported; what a copy that was killed leaves."""
 
     def copy(self, *patterns):
         """Copies files by their patterns to the directory `copy`."""
@@ -203,3 +203,17 @@ class Orders(Case):
         self.copy("logs.manifest")
         self.assertEqual(backup(self.logs, self.room / "copy")[0], 1)
         self.assertEqual(backup(self.logs, self.room / "other"), (0, ""))
+
+    def test_second_names(self):
+        """What a copy that was killed leaves keeps no writer out, and loses nothing by its end."""
+        self.publish("1 0 a", "2 0 b")
+        links = self.logs / "backup.123456"
+        links.mkdir()
+        for it in self.logs.glob("*.log"):
+            os.link(it, links / it.name)
+        before = (links / "0.log").read_bytes()
+        self.assertEqual(self.script("add 1 1 c", "swap", "write", "publish")[-1], "published 1")
+        self.bookie("compact", "--dead", 2, self.logs)
+        self.assertEqual((links / "0.log").read_bytes(), before)
+        self.assertEqual(self.bookie("export", self.logs, 1)[0].split(), ["0", "61", "1", "63"])
+        self.assertEqual(backup(self.logs, self.room / "copy"), (0, ""))
