@@ -69,14 +69,11 @@ class Load(threading.Thread):
         self.join(LIMIT)
 
 
-WAITS = "#!/bin/sh\nsleep 1\nexec {cp} \"$@\"\n"
-
-
-def waiting_path(room):
-    """Returns a path of programs on which `cp` waits first."""
-    program = room / "bin" / "cp"
+def path_with(room, name, first):
+    """Returns a path of programs on which one of this name first runs a command."""
+    program = room / "bin" / name
     program.parent.mkdir()
-    program.write_text(WAITS.format(cp=shutil.which("cp")))
+    program.write_text(f'#!/bin/sh\n{first}\nexec {shutil.which(name)} "$@"\n')
     program.chmod(0o755)
     return f"{program.parent}:{os.environ['PATH']}"
 
@@ -120,7 +117,7 @@ class Beside(Case):
     def test_copies(self):
         load = Load(self.serve("--log-limit", LOG, *compact_words(200, 800)))
         load.start()
-        made, self.path = 0, waiting_path(self.room)
+        made, self.path = 0, path_with(self.room, "cp", "sleep 1")
         for number in range(COPIES):
             load.gate.set()
             count = 300 * (number + 1)
@@ -203,6 +200,18 @@ class Orders(Case):
         self.copy("logs.manifest")
         self.assertEqual(backup(self.logs, self.room / "copy")[0], 1)
         self.assertEqual(backup(self.logs, self.room / "other"), (0, ""))
+
+    def test_fence_meanwhile(self):
+        """An entry that was added after a fence, to a log that is copied, is not there without the
+        fence."""
+        self.publish("1 0 a")
+        steps = "fence 1\\nradd 1 1 b\\nswap\\nwrite\\npublish\\n"
+        step = f"printf '{steps}' | {Programs.shell} script --folder {self.logs} > /dev/null"
+        copy = self.room / "copy"
+        self.assertEqual(backup(self.logs, copy, path_with(self.room, "find", step)), (0, ""))
+        words = ["script", "--folder", copy]
+        out, _ = self.bookie(*words, steps="holds 1 0\nholds 1 1\nfenced 1\n")
+        self.assertEqual(out.split(), ["yes", "yes", "yes"])
 
     def test_second_names(self):
         """What a copy that was killed leaves keeps no writer out, and loses nothing by its end."""
