@@ -49,7 +49,8 @@ def run(words, status=0, cwd=None, env=None, steps="", hidden=False):
 
 
 def build(*words, status=0):
-    return run([TOP / "dev", "build", *words], status, env={"PATH": os.environ["PATH"]})
+    env = {it: os.environ[it] for it in ("PATH", "HOME") if it in os.environ}
+    return run([TOP / "dev", "build", *words], status, env=env)
 
 
 def needs(*programs):
