@@ -222,6 +222,49 @@ class Kept(kit.Case):
         wanted = {(1, 0): b"one more", (4, 5): b"four", (3, 0): b"again", (3, 1): b"three"}
         self.assertEqual(log_files.read(self.logs), wanted)
 
+    def test_trial_of_a_log_whose_map_differs(self):
+        data = bytearray((self.logs / "0.log").read_bytes())
+        data[-1] ^= 1
+        (self.logs / "0.log").write_bytes(data)
+        out, errors = self.bookie("compact", "--dry-run", "--dead", "2", "--below", "1000", self.logs)
+        lines = out.splitlines()
+        self.assertEqual(lines[:2], [f"0 {len(data)} compact 1", "ledger 2 entries 1 bytes 23"])
+        self.assertRegex(lines[2], r"^before 1 after 1 freed \d+ moved 1$")
+        self.assertEqual(errors, "")
+
+    def test_trial_names_no_bytes_that_are_hidden(self):
+        self.logs = self.room / "hidden"
+        self.publish("1 0 one", "2 0 two")
+        with (self.logs / "0.log").open("ab") as log:
+            log.write(log_files.records([(2, 1, b"two"), (2, 2, b"two")]))
+        words = ["compact", "--dry-run", "--dead", "2", self.logs]
+        self.assertIn("ledger 2 entries 1 bytes 23\n", self.bookie(*words)[0])
+        self.assertIn("ledger 2 entries 3 bytes 69\n", self.bookie(*words, "--no-manifest")[0])
+
+    def test_trial_without_ids_shows_what_goes(self):
+        """No log can be made after the last: the logs that would be removed are shown, no copy is."""
+        last = (1 << 31) - 1
+        log_files.write(self.logs, {0: [ONE, TWO], 5: [TWO], last: [(2, 1, b"two"), THREE]})
+        words = ["compact", "--dead", "2", "--below", "1000", self.logs]
+        out, errors = self.bookie(*words, "--dry-run", status=1)
+        self.assertEqual(([it.split()[::2] for it in out.splitlines()], errors), ([["5", "remove"]], "fault no more ids\n"))
+        before = self.files()
+        self.assertEqual(self.bookie(*words, status=1)[1], "fault no more ids\n")
+        self.assertEqual(log_files.read(self.logs)[1, 0], ONE[2])
+        self.assertLessEqual(set(self.log_names()), {it for it in before if it.endswith(".log")})
+
+    def test_empty_log_is_removed(self):
+        (self.logs / "1.log").write_bytes(b"")
+        for words in (["--dry-run"], []):
+            out, errors = self.bookie("compact", *words, "--no-manifest", self.logs)
+            self.assertEqual((out.splitlines()[-1], errors), ("before 2 after 1 freed 0 moved 0", ""))
+        self.assertEqual(self.log_names(), ["0.log"])
+
+    def test_link_of_an_index_is_refused(self):
+        (self.logs / "lastMark").symlink_to(self.room / "gone")
+        _, errors = self.bookie("compact", "--dead", "1", self.logs, status=1)
+        self.assertIn(f"{self.logs}/lastMark", errors)
+
     def test_trial_counts_deletions_that_are_recorded(self):
         self.script("delete 1", "delete 2")
         out, _ = self.bookie("compact", "--dry-run", self.logs)
@@ -355,6 +398,46 @@ class Rebuild(kit.Case):
         self.assertEqual(sum((it for _, it in batches), []), [("deleted", 2), ("fenced", 1)])
         self.assertEqual(self.script("holds 2 0", "fenced 1", "holds 1 0"), ["no", "yes", "yes"])
 
+    def test_records_and_bytes_are_counted(self):
+        """Of each manifest: the records that the new one has, and the bytes from the damage on."""
+        one, two = [("deleted", 2), ("fenced", 3)], [("fenced", 4), ("deleted", 3)]
+        self.lay(LEDGERS, one, two, [("deleted", 9)], [("fenced", 9)])
+        ends = [at for at, _ in manifest_files.batches(manifest_files.written(5, one, two, one))[1]]
+        standing = len(manifest_files.state([*one, *two]))
+        unread = len(self.damaged) - ends[2]
+        out, errors = self.bookie("manifest", "--rebuild", self.logs)
+        kept = f"kept {LEDGERS}.damaged"
+        self.assertEqual(out.splitlines()[0], f"rebuilt {LEDGERS} records {standing} unread {unread} {kept}")
+        self.lay(LOGS, [("made", 0)], [("made", 1)], [("made", 2)])
+        unread = len(self.damaged) - manifest_files.batches(manifest_files.written(5, [("made", 0)], []))[1][1][0]
+        out, errors = self.bookie("manifest", "--rebuild", self.logs)
+        line = f"rebuilt {LOGS} records 1 unread {unread} kept {LOGS}.damaged"
+        self.assertEqual((out.splitlines(), errors), ([f"whole {LEDGERS}", line], ""))
+
+    def test_damaged_first_batch_leaves_the_generation(self):
+        for name, record in ((LEDGERS, ("deleted", 2)), (LOGS, ("made", 4))):
+            self.lay(name, [record], [record])
+        self.bookie("manifest", "--rebuild", self.logs)
+        for name, records in ((LEDGERS, []), (LOGS, [("durable", 0, 1126)])):
+            generation, batches = manifest_files.batches((self.logs / name).read_bytes())
+            self.assertEqual((generation, [it for _, it in batches]), (6, [records]))
+
+    def test_damaged_header_begins_anew(self):
+        for name, record in ((LEDGERS, ("deleted", 2)), (LOGS, ("made", 4))):
+            (self.logs / name).write_bytes(b"x" + manifest_files.written(5, [record])[1:])
+        self.bookie("manifest", "--rebuild", self.logs)
+        for name in (LEDGERS, LOGS):
+            self.assertEqual(manifest_files.batches((self.logs / name).read_bytes())[0], 1)
+
+    def test_damaged_one_is_told_with_its_way_on(self):
+        (self.logs / LOGS).unlink()
+        for words in ([], ["--check"]):
+            out, errors = self.bookie("manifest", *words, self.logs, status=1)
+            fault, way = errors.splitlines()
+            self.assertEqual((out, fault[:24]), ("", "fault damaged manifest 6"))
+            self.assertIn(f"{self.logs}/{LEDGERS}", fault)
+            self.assertIn("manifest --rebuild", way)
+
     def test_copy_of_an_earlier_damage_stays(self):
         for name in (LEDGERS, LOGS):
             path = self.logs / f"{name}.damaged"
@@ -438,6 +521,29 @@ class Rebuild(kit.Case):
                 counts = f"records 4 standing {standing} torn {len(torn)}"
                 self.assertEqual(out[0], f"{LEDGERS} generation 5 {counts}")
                 self.assertEqual(out[1].split()[0] == LOGS, len(words) == 2)
+
+    def test_each_kind_of_record_is_shown(self):
+        records = [("deleted", 2), ("fenced", 3), ("attribute", 3, 1, b"lac"), ("attribute", 4, 0, b"")]
+        (self.logs / LEDGERS).write_bytes(manifest_files.written(5, records))
+        (self.logs / LOGS).write_bytes(
+            manifest_files.written(7, [("made", 9), ("durable", 0, 1126), ("removed", 3, 1030)])
+        )
+        wanted = [
+            f"{LEDGERS} generation 5 records 4 standing 4 torn 0",
+            "deleted 2",
+            "fenced 3",
+            "attribute 3 kind 1 length 3",
+            "attribute 4 kind 0 length 0",
+            f"{LOGS} generation 7 records 3 standing 3 torn 0",
+            "durable 0 length 1126",
+            "removed 3 length 1030",
+            "made 9",
+        ]
+        self.assertEqual(sorted(self.bookie("manifest", self.logs)[0].splitlines()), sorted(wanted))
+        objects = [json.loads(it) for it in self.bookie("--json", "manifest", self.logs)[0].splitlines()]
+        self.assertIn({"record": "attribute", "ledger": 3, "length": 3, "kind": 1}, objects)
+        self.assertIn({"record": "removed", "log": 3, "length": 1030}, objects)
+        self.assertIn({"record": "made", "log": 9}, objects)
 
     def test_check_shows_no_records(self):
         (self.logs / LEDGERS).write_bytes(manifest_files.written(5, [("deleted", 2)]))
