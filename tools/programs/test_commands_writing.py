@@ -4,6 +4,7 @@ stay, and what is left undone is status 1."""
 import json
 import os
 
+import device
 import kit
 import log_files
 import manifest_files
@@ -357,6 +358,69 @@ class Seal(kit.Case):
                 self.assertEqual(path.read_bytes(), data)
                 self.assertEqual((self.logs / "1.log").read_bytes(), self.torn)
             path.unlink()
+
+    def test_file_in_the_place_of_a_copy_is_named(self):
+        for name in ("1.log.torn", "1.log.torn.new"):
+            path = self.logs / name
+            path.write_bytes(b"mine")
+            for words in (["--no-manifest"], []):
+                words = ["seal", *words, "--cut-torn", self.logs, "1"]
+                fault, way = self.bookie(*words, status=1)[1].splitlines()
+                self.assertEqual(
+                    fault, f"fault copy exists: {path}: it is no copy of {self.logs}/1.log"
+                )
+                self.assertTrue(way.startswith(f"help: move {path} to another name"), way)
+                found = json.loads(self.bookie("--json", *words, status=1)[1])
+                self.assertEqual((found["log"], found["copy"]), (1, str(path)))
+            path.unlink()
+
+    def test_draft_that_differs_late_stays(self):
+        """The draft of an earlier call has the first bytes of the log, but for its last."""
+        log = log_files.open_log([(1, it, b"x" * 10_000) for it in range(7)], TORN)
+        (self.logs / "1.log").write_bytes(log)
+        draft = self.logs / "1.log.torn.new"
+        for length in (32_768, 32_769, 40_000, len(log)):
+            draft.write_bytes(log[: length - 1] + bytes([log[length - 1] ^ 1]))
+            _, errors = self.bookie("seal", "--cut-torn", self.logs, "1", status=1)
+            self.assertIn("copy exists", errors)
+            self.assertEqual(draft.stat().st_size, length)
+            self.assertEqual((self.logs / "1.log").read_bytes(), log)
+        draft.write_bytes(log[:40_000])
+        self.bookie("seal", "--cut-torn", self.logs, "1")
+        self.assertEqual((self.logs / "1.log.torn").read_bytes(), log)
+        self.assertFalse(draft.exists())
+
+    @device.needs_compiler
+    def test_copy_is_durable_before_the_log_is_cut(self):
+        """And what is left is durable before the map is written."""
+        for words in (["--no-manifest"], []):
+            self.setUp()
+            calls = self.room / "calls"
+            more = device.failing(self.logs, "", 0, 0)
+            more |= {"FAULT_TRACE": str(calls), "FAULT_KINDS": ",rename,sync,cut,write,"}
+            self.bookie("seal", *words, "--cut-torn", self.logs, "1", more=more)
+            made = [it.replace(f"{self.logs}/", "") for it in calls.read_text().splitlines()]
+            named, cut = made.index("rename 1.log.torn.new"), made.index("cut 1.log")
+            self.assertIn("sync 1.log.torn.new", made[:named])
+            self.assertIn(f"sync {self.logs}", made[named:cut], made)
+            written = made.index("write 1.log", cut)
+            self.assertIn("sync 1.log", made[cut:written], made)
+
+    def test_header_that_names_no_map_is_cleared(self):
+        """A crash in a seal: the map, or a part of it, is not there."""
+        whole = log_files.sealed_log([TWO])
+        at = log_files.HEADER + log_files.FRONT + len(TWO[2])
+        for length in (at, len(whole) - 5):
+            for words in (["--no-manifest"], []):
+                self.setUp()
+                (self.logs / "1.log").write_bytes(whole[:length])
+                out, errors = self.bookie("seal", *words, "--cut-torn", self.logs, "1")
+                copy = f"copy {self.logs}/1.log.torn"
+                lines = [f"cut 1 at {at} bytes {length - at} {copy}"] if length > at else []
+                lines += [f"cleared 1 map {at} count 1 {copy}", f"sealed 1 map {at} count 1"]
+                self.assertEqual((out.splitlines(), errors), (lines, ""))
+                self.assertEqual((self.logs / "1.log").read_bytes(), whole)
+                self.assertEqual((self.logs / "1.log.torn").read_bytes(), whole[:length])
 
     def test_link_in_the_place_of_a_copy_stays(self):
         (self.room / "other").write_bytes(self.torn)
