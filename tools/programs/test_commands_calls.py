@@ -6,6 +6,7 @@ import os
 import pty
 import re
 import subprocess
+import time
 from pathlib import Path
 
 import device
@@ -104,7 +105,6 @@ class Failing(kit.Case):
         self.assertTrue(out.startswith("fault "), out)
         self.assertIn(f"{self.logs}/{LEDGERS}: sync: ", errors)
 
-
     @device.needs_compiler
     def test_call_that_fails_is_named_with_the_fault(self):
         log_files.write(self.logs, {0: ENTRIES})
@@ -134,6 +134,47 @@ class Failing(kit.Case):
             self.assertTrue(found[-1], number)
         both = [sorted(Path(it).name for it in places) for places in found]
         self.assertIn(["1.log", LOGS], both)
+
+
+    @device.needs_compiler
+    def test_calls_that_fail_alike_are_told_once(self):
+        """Reads of a log fail, and then its removal: a line for each kind of call."""
+        steps = ["take 0 1 0", *["fetch 0"] * 3, "release 0", "delete 1", "delete 2", "retire 0"]
+        steps += ["close 0", "remove 0", "remove 0"]
+        place = f"{self.logs}/0.log"
+        for number in range(4, 8):
+            log_files.write(self.logs, {0: ENTRIES})
+            more = device.failing(self.logs / "0.log", "", number, errno.EIO, stays=True)
+            more["FAULT_KINDS"] = ",read,remove,"
+            words = ["script", "--no-manifest", "--folder", self.logs]
+            ran = self.call(*words, steps="".join(f"{it}\n" for it in steps), more=more)
+            if ran.returncode == 0:
+                break
+        self.assertEqual(ran.stdout.decode().splitlines().count("fault disk"), 5)
+        told = [it.split(": ")[:2] for it in ran.stderr.decode().splitlines()]
+        self.assertEqual(told, [[place, "read"], [place, "remove"]])
+
+    @device.needs_compiler
+    def test_log_that_is_there_already_is_told(self):
+        log_files.write(self.logs, {0: ENTRIES})
+        more = device.failing(self.logs / "1.log", "open", 1, errno.EEXIST)
+        words = ["script", "--no-manifest", "--folder", self.logs]
+        steps = "add 3 0 hello\nswap\nwrite\nwrite\npublish\n"
+        out, errors = self.bookie(*words, steps=steps, more=more)
+        self.assertEqual(out.splitlines()[2], "fault odd disk")
+        self.assertTrue(errors.startswith(f"{self.logs}/1.log: create: File exists"), errors)
+
+    @device.needs_compiler
+    def test_log_that_goes_before_its_length_is_read(self):
+        """The system does not find the file at one look: a trial goes on without it."""
+        found = []
+        for number in range(1, 7):
+            log_files.write(self.logs, {0: ENTRIES, 1: [(3, 0, b"three")]})
+            more = device.failing(self.logs / "0.log", "stat", number, errno.ENOENT)
+            ran = self.call("compact", "--dry-run", "--no-manifest", self.logs, more=more)
+            found.append((ran.returncode, ran.stdout))
+        for count in (1, 2):
+            self.assertIn((0, b"before %d after %d freed 0 moved 0\n" % (count, count)), found)
 
 
 class Terminal(kit.Case):
@@ -182,6 +223,13 @@ class Terminal(kit.Case):
     def test_compaction_shows_the_bytes_that_are_read(self):
         shown = self.shown({0: [(1, 0, b"x"), (2, 0, bytes(2_000_000))]})
         self.assertRegex(shown, rb"^\r\x1b\[K0 of 1 logs, 1 entries copied, 2 MB read")
+
+    def test_compaction_rests_between_two_lines(self):
+        """A tenth of a second at least."""
+        began = time.monotonic()
+        shown = self.shown({log: [(1, log, b"x"), (2, log, bytes(100))] for log in range(60)})
+        lines = [it for it in shown.split(b"\r\x1b[K") if it]
+        self.assertTrue(1 <= len(lines) <= 10 * (time.monotonic() - began) + 1, len(lines))
 
     @device.needs_compiler
     def test_opening_shows_the_logs_that_are_read(self):
