@@ -135,7 +135,6 @@ class Failing(kit.Case):
         both = [sorted(Path(it).name for it in places) for places in found]
         self.assertIn(["1.log", LOGS], both)
 
-
     @device.needs_compiler
     def test_calls_that_fail_alike_are_told_once(self):
         """Reads of a log fail, and then its removal: a line for each kind of call."""
@@ -177,6 +176,30 @@ class Failing(kit.Case):
             self.assertIn((0, b"before %d after %d freed 0 moved 0\n" % (count, count)), found)
 
 
+@device.needs_compiler
+class Rows(kit.Case):
+    """A row is seen as soon as it is known: the device is slow, and the next log takes its time."""
+
+    def test_first_row_is_seen_before_the_last(self):
+        log_files.write(self.logs, {it: ENTRIES for it in range(3)})
+        more = {**device.failing(self.logs, "read", 0, 0), "FAULT_SLOW": "150000"}
+        for words in (
+            ["check", self.logs],
+            ["check", "--quick", self.logs],
+            ["check", "--digest", "crc32", self.logs],
+            ["stat", self.logs],
+            ["hint", self.logs],
+            ["hint", "--check", self.logs],
+        ):
+            words = [str(kit.Programs.shell), *map(str, words)]
+            how = {"stdout": subprocess.PIPE, "env": {**os.environ, **more}}
+            with subprocess.Popen(words, **how) as ran:
+                ran.stdout.readline()
+                first = time.monotonic()
+                ran.stdout.read()
+                self.assertGreater(time.monotonic() - first, 0.2, words)
+
+
 class Terminal(kit.Case):
     """The standard input or the error stream is a terminal."""
 
@@ -192,6 +215,14 @@ class Terminal(kit.Case):
         ran = subprocess.run(words, stdin=self.slave, capture_output=True, timeout=kit.LIMIT)
         self.assertEqual((ran.returncode, ran.stdout), (0, b"no\n"))
         self.assertIn(b"reading the steps from the terminal until Ctrl-D", ran.stderr)
+
+    def test_other_commands_do_not_say_so(self):
+        self.addCleanup(os.close, self.slave)
+        log_files.write(self.logs, {0: ENTRIES})
+        for words in (["check", self.logs], ["--version"], ["help", "script"]):
+            words = [str(kit.Programs.shell), *map(str, words)]
+            ran = subprocess.run(words, stdin=self.slave, capture_output=True, timeout=kit.LIMIT)
+            self.assertEqual((ran.returncode, ran.stderr), (0, b""))
 
     def shown_by(self, *words, more=None):
         """Runs the shell. Returns what is shown of the progress, which is cleared at the end."""

@@ -92,7 +92,9 @@ class Faulty(kit.Case):
         """A ledger of that log is found, and the fault is told."""
         (self.room / "live").write_text("2\n")
         for words in ([], ["--json"]):
-            out, errors = self.bookie(*words, "stat", "--live-file", self.room / "live", self.logs, status=1)
+            out, errors = self.bookie(
+                *words, "stat", "--live-file", self.room / "live", self.logs, status=1
+            )
             self.assertEqual(len(out.splitlines()), 3)
             self.assertEqual(errors.count("bad length"), 2)
             self.assertEqual({it[0] for it in errors.splitlines()}, {"{" if words else "f"})
@@ -184,7 +186,9 @@ class Unread(kit.Case):
         (self.logs / "1.log").unlink()
         kit.flip(self.logs / "0.log", 0)
         for words in (
-            ["find", self.logs, "2", "0"], ["ledgers", self.logs], ["entries", self.logs, "1"]
+            ["find", self.logs, "2", "0"],
+            ["ledgers", self.logs],
+            ["entries", self.logs, "1"],
         ):
             _, errors = self.bookie(*words, status=1)
             self.assertIn("fault log 0: bad magic", errors)
@@ -318,7 +322,10 @@ class Parts(kit.Case):
 
     def test_entries_of_a_range(self):
         for words, wanted in (
-            ([], range(6)), (["2"], range(2, 6)), (["2", "4"], range(2, 5)), (["0", "0"], range(1))
+            ([], range(6)),
+            (["2"], range(2, 6)),
+            (["2", "4"], range(2, 5)),
+            (["0", "0"], range(1)),
         ):
             out = self.bookie("entries", self.logs, "1", *words)[0].splitlines()
             self.assertEqual([int(it.split()[0]) for it in out], list(wanted))

@@ -21,6 +21,10 @@ class Words(kit.Case):
             ["compact", "--dead", "1", "--dead", "x", self.logs],
             ["compact", "--dead", "1", "--dead", str(1 << 63), self.logs],
             ["compact", "--below", "1001", self.logs],
+            ["script", "--slots", "0"],
+            ["script", "--slots", "65537"],
+            ["script", "--log-limit", "2047"],
+            ["script", "--folder", self.logs, "x"],
             ["compact", "--minor", "--major", self.logs],
             ["compact", "--minor", "--below", "5", self.logs],
             ["manifest", "--check", "--rebuild", self.logs],
@@ -87,7 +91,12 @@ class Meant(kit.Case):
         return errors.splitlines()
 
     def test_near_command_is_named(self):
-        for word, name in (("chek", "check"), ("lods", "logs"), ("scrpt", "script"), ("laod", "load")):
+        for word, name in (
+            ("chek", "check"),
+            ("lods", "logs"),
+            ("scrpt", "script"),
+            ("laod", "load"),
+        ):
             lines = self.told(word, self.logs)
             self.assertEqual(lines[0], f"error: unrecognized command '{word}'; there is '{name}'")
 
@@ -141,7 +150,11 @@ class Meant(kit.Case):
         self.assertIn("error: invalid value 'x' for '<LEDGER>'", lines[0])
 
     def test_near_option_of_a_directory(self):
-        for word, name in (("--no-manifst", "no-manifest"), ("--foldr", "folder"), ("--slot", "slots")):
+        for word, name in (
+            ("--no-manifst", "no-manifest"),
+            ("--foldr", "folder"),
+            ("--slot", "slots"),
+        ):
             self.assertIn(f"there is '--{name}'", self.told("script", word)[0])
         self.assertEqual(
             self.told("script", "--nothing")[0], "error: unexpected argument '--nothing' found"

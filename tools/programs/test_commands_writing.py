@@ -227,7 +227,9 @@ class Kept(kit.Case):
         data = bytearray((self.logs / "0.log").read_bytes())
         data[-1] ^= 1
         (self.logs / "0.log").write_bytes(data)
-        out, errors = self.bookie("compact", "--dry-run", "--dead", "2", "--below", "1000", self.logs)
+        out, errors = self.bookie(
+            "compact", "--dry-run", "--dead", "2", "--below", "1000", self.logs
+        )
         lines = out.splitlines()
         self.assertEqual(lines[:2], [f"0 {len(data)} compact 1", "ledger 2 entries 1 bytes 23"])
         self.assertRegex(lines[2], r"^before 1 after 1 freed \d+ moved 1$")
@@ -248,17 +250,33 @@ class Kept(kit.Case):
         log_files.write(self.logs, {0: [ONE, TWO], 5: [TWO], last: [(2, 1, b"two"), THREE]})
         words = ["compact", "--dead", "2", "--below", "1000", self.logs]
         out, errors = self.bookie(*words, "--dry-run", status=1)
-        self.assertEqual(([it.split()[::2] for it in out.splitlines()], errors), ([["5", "remove"]], "fault no more ids\n"))
+        self.assertEqual(
+            ([it.split()[::2] for it in out.splitlines()], errors),
+            ([["5", "remove"]], "fault no more ids\n"),
+        )
         before = self.files()
         self.assertEqual(self.bookie(*words, status=1)[1], "fault no more ids\n")
         self.assertEqual(log_files.read(self.logs)[1, 0], ONE[2])
         self.assertLessEqual(set(self.log_names()), {it for it in before if it.endswith(".log")})
 
+    def test_copy_that_is_longer_frees_less_than_nothing(self):
+        """An open log has no map, its copy has one."""
+        log_files.write(self.logs, {0: [ONE, TWO]}, opened=(0,))
+        length = (self.logs / "0.log").stat().st_size
+        freed = length - len(log_files.sealed_log([ONE]))
+        self.assertLess(freed, 0)
+        line = f"before 1 after 1 freed {freed} moved 1"
+        for words in (["--dry-run"], []):
+            out, _ = self.bookie("compact", *words, "--dead", "2", self.logs)
+            self.assertEqual(out.splitlines()[-1], line)
+
     def test_empty_log_is_removed(self):
         (self.logs / "1.log").write_bytes(b"")
         for words in (["--dry-run"], []):
             out, errors = self.bookie("compact", *words, "--no-manifest", self.logs)
-            self.assertEqual((out.splitlines()[-1], errors), ("before 2 after 1 freed 0 moved 0", ""))
+            self.assertEqual(
+                (out.splitlines()[-1], errors), ("before 2 after 1 freed 0 moved 0", "")
+            )
         self.assertEqual(self.log_names(), ["0.log"])
 
     def test_link_of_an_index_is_refused(self):
@@ -471,9 +489,14 @@ class Rebuild(kit.Case):
         unread = len(self.damaged) - ends[2]
         out, errors = self.bookie("manifest", "--rebuild", self.logs)
         kept = f"kept {LEDGERS}.damaged"
-        self.assertEqual(out.splitlines()[0], f"rebuilt {LEDGERS} records {standing} unread {unread} {kept}")
+        self.assertEqual(
+            out.splitlines()[0], f"rebuilt {LEDGERS} records {standing} unread {unread} {kept}"
+        )
         self.lay(LOGS, [("made", 0)], [("made", 1)], [("made", 2)])
-        unread = len(self.damaged) - manifest_files.batches(manifest_files.written(5, [("made", 0)], []))[1][1][0]
+        unread = (
+            len(self.damaged)
+            - manifest_files.batches(manifest_files.written(5, [("made", 0)], []))[1][1][0]
+        )
         out, errors = self.bookie("manifest", "--rebuild", self.logs)
         line = f"rebuilt {LOGS} records 1 unread {unread} kept {LOGS}.damaged"
         self.assertEqual((out.splitlines(), errors), ([f"whole {LEDGERS}", line], ""))
@@ -587,7 +610,12 @@ class Rebuild(kit.Case):
                 self.assertEqual(out[1].split()[0] == LOGS, len(words) == 2)
 
     def test_each_kind_of_record_is_shown(self):
-        records = [("deleted", 2), ("fenced", 3), ("attribute", 3, 1, b"lac"), ("attribute", 4, 0, b"")]
+        records = [
+            ("deleted", 2),
+            ("fenced", 3),
+            ("attribute", 3, 1, b"lac"),
+            ("attribute", 4, 0, b""),
+        ]
         (self.logs / LEDGERS).write_bytes(manifest_files.written(5, records))
         (self.logs / LOGS).write_bytes(
             manifest_files.written(7, [("made", 9), ("durable", 0, 1126), ("removed", 3, 1030)])
@@ -604,7 +632,9 @@ class Rebuild(kit.Case):
             "made 9",
         ]
         self.assertEqual(sorted(self.bookie("manifest", self.logs)[0].splitlines()), sorted(wanted))
-        objects = [json.loads(it) for it in self.bookie("--json", "manifest", self.logs)[0].splitlines()]
+        objects = [
+            json.loads(it) for it in self.bookie("--json", "manifest", self.logs)[0].splitlines()
+        ]
         self.assertIn({"record": "attribute", "ledger": 3, "length": 3, "kind": 1}, objects)
         self.assertIn({"record": "removed", "log": 3, "length": 1030}, objects)
         self.assertIn({"record": "made", "log": 9}, objects)

@@ -51,12 +51,14 @@ class Notes(Case):
         self.publish("1 0 one", "2 0 two")
         self.publish("3 0 three", after=["delete 2"])
 
-    def notes(self, note, *calls, status=0):
+    def notes(self, note, *calls, status=0, once=False):
         """Each of these calls, on the directory as it is now, has this note as an object."""
         before = {it.name: it.read_bytes() for it in self.logs.iterdir()}
         for words in calls:
             _, errors = self.objects(*words, status=status)
-            self.assertIn(note, [{key: it.get(key) for key in note} for it in errors], words)
+            found = [it for it in errors if note == {key: it.get(key) for key in note}]
+            self.assertTrue(found, (words, errors))
+            self.assertEqual(len(found), 1 if once else len(found), (words, errors))
             for it in self.logs.iterdir():
                 it.unlink()
             for name, data in before.items():
@@ -103,7 +105,11 @@ class Notes(Case):
 
     def test_deleted_ledgers(self):
         note = {"note": "deleted", "ledger": 2, "ledgers": None}
-        words = [["entries", self.logs, "2"], ["export", self.logs, "2"], ["find", self.logs, "2", "0"]]
+        words = [
+            ["entries", self.logs, "2"],
+            ["export", self.logs, "2"],
+            ["find", self.logs, "2", "0"],
+        ]
         self.notes(note, *words)
         self.notes({"note": "deleted", "ledger": None, "ledgers": 1}, ["ledgers", self.logs])
         kit.flip(self.logs / LEDGERS, 0)
@@ -119,6 +125,7 @@ class Notes(Case):
             ["compact", "--dry-run", self.logs],
             ["compact", self.logs],
             ["import", self.logs, self.raw()],
+            once=True,
         )
 
     def test_torn_manifests(self):
@@ -178,7 +185,9 @@ class Faults(Case):
             wanted = {"fault": "bad length", "at": at, "length": 7, "log": 1}
             self.assertEqual(found, [wanted], words)
         found = self.objects("check", self.logs, status=1)[0]
-        self.assertEqual(found[1], {"log": 1, "health": "fault", "fault": "bad length", "at": at, "length": 7})
+        self.assertEqual(
+            found[1], {"log": 1, "health": "fault", "fault": "bad length", "at": at, "length": 7}
+        )
 
     def test_log_of_a_bad_header(self):
         data = bytearray((self.logs / "0.log").read_bytes())
@@ -190,7 +199,9 @@ class Faults(Case):
     def test_index(self):
         (self.logs / "locations").mkdir()
         found = self.told("compact", self.logs)
-        self.assertEqual((found["fault"], found["file"]), ("bookie index", f"{self.logs}/locations"))
+        self.assertEqual(
+            (found["fault"], found["file"]), ("bookie index", f"{self.logs}/locations")
+        )
         self.assertIn("--index-is-rebuilt", found["help"])
         self.assertEqual(set(found), {"fault", "file", "help"})
 

@@ -94,7 +94,9 @@ class Ledgers(Case):
 
     def test_sizes_by_powers_of_two(self):
         sizes = [20, 31, 32, 63, 64, 500, 1024, 1500, 2047]
-        log_files.write(self.logs, {0: [(1, it, bytes(size - 20)) for it, size in enumerate(sizes)]})
+        log_files.write(
+            self.logs, {0: [(1, it, bytes(size - 20)) for it, size in enumerate(sizes)]}
+        )
         rows = self.rows(self.section(self.page(), "Sizes of entries"))
         wanted = []
         for power in range(4, 11):
@@ -158,12 +160,16 @@ class Effect(Case):
             live, every = sizes.get(1, 0), sum(sizes.values())
             if live * 1000 < threshold * every or live == 0:
                 taken, copied = taken + 1, copied + live
-                copy = len(log_files.sealed_log([it for it in entries if it[0] == 1])) if live else 0
+                copy = (
+                    len(log_files.sealed_log([it for it in entries if it[0] == 1])) if live else 0
+                )
                 freed += (self.logs / log_files.name_of(log)).stat().st_size - copy
         return taken, copied, freed
 
     def part(self, *words, status=0):
-        return self.section(self.page("--dead", "2", *words, status=status), "What a compaction would free")
+        return self.section(
+            self.page("--dead", "2", *words, status=status), "What a compaction would free"
+        )
 
     def test_table(self):
         part, every = self.part(), sum(it.stat().st_size for it in self.logs.glob("*.log"))
@@ -173,7 +179,9 @@ class Effect(Case):
             kind = {200: ", minor", 800: ", major"}.get(threshold, "")
             name = f"below {threshold // 10} %{kind}" if threshold else "nothing live"
             share = 1000 * freed // every
-            wanted.append([name, str(taken), f"{copied:,}", f"{freed:,}", f"{share // 10}.{share % 10} %"])
+            wanted.append(
+                [name, str(taken), f"{copied:,}", f"{freed:,}", f"{share // 10}.{share % 10} %"]
+            )
         self.assertEqual(self.rows(part), wanted)
 
     def test_curves(self):
@@ -192,7 +200,10 @@ class Effect(Case):
             self.assertEqual(points, wanted)
         titles = re.findall(r"<title>below ([\d.]+) %: (.*?)</title>", part)
         wanted = [
-            (f"{it * 25 // 10}.{it * 25 % 10}", f"{one} logs, {two:,} bytes copied, {three:,} bytes freed")
+            (
+                f"{it * 25 // 10}.{it * 25 % 10}",
+                f"{one} logs, {two:,} bytes copied, {three:,} bytes freed",
+            )
             for it, (one, two, three) in enumerate(effects)
         ]
         self.assertEqual(titles, wanted)
@@ -210,7 +221,10 @@ class Effect(Case):
         self.assertIn("Logs with a fault, which are left out here: 1.", part)
         self.assertIn("a compaction leaves as they are: 2.", part)
         self.assertEqual(self.rows(part)[-1][:4], whole[:4])
-        states = {it[0].split()[0]: it[-1] for it in self.rows(self.section(self.page("--dead", "2", status=1), "Logs"))}
+        states = {
+            it[0].split()[0]: it[-1]
+            for it in self.rows(self.section(self.page("--dead", "2", status=1), "Logs"))
+        }
         self.assertEqual((states["14"], states["3"]), ("sealed", "fault"))
 
 
@@ -221,7 +235,9 @@ class Parts(Case):
         torn = log_files.records([(1, 2, b"x" * 80)])[:50]
         (self.logs / "2.log").write_bytes(log_files.open_log([], torn))
         rows = self.rows(self.section(self.page(status=1), "Logs"))
-        self.assertEqual([it[5:9] for it in rows[1:]], [["0", "0", "0", "44"], ["0", "0", "50", "0"]])
+        self.assertEqual(
+            [it[5:9] for it in rows[1:]], [["0", "0", "0", "44"], ["0", "0", "50", "0"]]
+        )
         self.assertEqual(rows[0][5:9], ["0", "40", "0", "0"])
 
     def test_small_pieces_are_seen(self):
@@ -233,7 +249,12 @@ class Parts(Case):
         bars = re.findall(r'<svg class="bar".*?</svg>', self.page("--dead", "2"), re.S)
         found = re.findall(r'<rect class="(\w+)" x="(\d+)" width="(\d+)"', bars[1])
         live, dead, torn, rest = (it * 1000 // most for it in (20_020, 20_120, 20_124, 21_148))
-        wanted = [("live", 0, live), ("dead", live, dead), ("torn", torn - 12, torn), ("rest", torn, rest)]
+        wanted = [
+            ("live", 0, live),
+            ("dead", live, dead),
+            ("torn", torn - 12, torn),
+            ("rest", torn, rest),
+        ]
         wanted = [(name, str(at), str(to - at)) for name, at, to in wanted if at < to]
         self.assertEqual(found, wanted)
 
