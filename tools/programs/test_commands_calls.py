@@ -175,6 +175,19 @@ class Failing(kit.Case):
         for count in (1, 2):
             self.assertIn((0, b"before %d after %d freed 0 moved 0\n" % (count, count)), found)
 
+    @device.needs_compiler
+    def test_export_writes_no_entry_twice(self):
+        """Log 1 is not found at one look: all logs are read again, and the export goes on."""
+        log_files.write(self.logs, {0: [(1, 0, b"one")], 1: [(1, 1, b"two")]})
+        first, second = f"0 {b'one'.hex()}\n", f"1 {b'two'.hex()}\n"
+        found = set()
+        for kind in ("open", "stat"):
+            for number in range(3, 12):
+                more = device.failing(self.logs / "1.log", kind, number, errno.ENOENT)
+                words = ["export", "--no-manifest", self.logs, "1"]
+                found.add(self.bookie(*words, more=more))
+        self.assertEqual(found, {(first, ""), (first + second, "")})
+
 
 @device.needs_compiler
 class Rows(kit.Case):

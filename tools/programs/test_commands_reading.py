@@ -394,6 +394,16 @@ class Hints(kit.Case):
         self.bookie("compact", "--dead", "1", self.logs)
         self.assertEqual(sorted(it.name for it in self.logs.glob("*.hint")), ["0.hint", "2.hint"])
 
+    def test_hint_that_is_not_used_is_noted_once(self):
+        """Though the export reads its log again and again."""
+        log_files.write(self.logs, {it: [(1, it, b"x"), (1, it + 9, b"y")] for it in range(2)})
+        self.bookie("hint", self.logs)
+        kit.flip(self.logs / "0.hint", 40)
+        keys = [(0, 0), (1, 0), (9, 1), (10, 1)]
+        out, errors = self.bookie("export", self.logs, "1")
+        self.assertEqual(out.splitlines(), [f"{it} {b'xy'[at:at + 1].hex()}" for it, at in keys])
+        self.assertEqual(errors, "note hint not used: log 0: bad hint checksum\n")
+
     def test_hint_that_is_not_used_is_noted(self):
         kit.flip(self.logs / "1.hint", 40)
         (self.room / "raw").write_bytes(log_files.records([(4, 0, b"four")]))
