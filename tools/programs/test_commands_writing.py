@@ -3,6 +3,7 @@ stay, and what is left undone is status 1."""
 
 import json
 import os
+import unittest
 
 import device
 import kit
@@ -74,6 +75,34 @@ class Deletions(kit.Case):
             _, errors = self.bookie(*words, status=1)
             self.assertIn(LEDGERS, errors)
             self.assertEqual(self.files(), before, words)
+
+    def test_way_on_behind_each_refusal(self):
+        self.script("delete 1", "delete 2")
+        rebuild = "'./bookie manifest --rebuild' makes a new one"
+        for spoil, fault, way in (
+            (lambda: kit.flip(self.logs / LEDGERS, 30), LEDGERS, rebuild),
+            (lambda: kit.flip(self.logs / LOGS, 0), LOGS, rebuild),
+            (lambda: (self.logs / "2.log").unlink(), "log 2 with", "put the log back from a copy"),
+            (lambda: kit.flip(self.logs / "2.log", 0), "log 2: bad magic", "if './bookie scan'"),
+        ):
+            before = self.files()
+            spoil()
+            for words in (
+                ["script", "--folder", self.logs],
+                ["import", self.logs, self.raw],
+                ["compact", self.logs],
+            ):
+                lines = self.bookie(*words, status=1)[1].splitlines()
+                self.assertIn(fault, lines[-2], words)
+                self.assertTrue(lines[-1].startswith(f"help: {way}"), (words, lines))
+            for name, data in before.items():
+                (self.logs / name).write_bytes(data)
+
+    @unittest.expectedFailure  # `load` names the fault alone
+    def test_way_on_of_a_load(self):
+        kit.flip(self.logs / "2.log", 0)
+        words = ["load", "--folder", self.logs, "--threads", "1", "--adds", "1"]
+        self.assertIn("help: ", self.bookie(*words, status=1)[1])
 
     def test_manifests_are_left_alone(self):
         for words in (
