@@ -268,6 +268,22 @@ class Terminal(kit.Case):
         shown = self.shown({0: [(1, 0, b"x"), (2, 0, bytes(2_000_000))]})
         self.assertRegex(shown, rb"^\r\x1b\[K0 of 1 logs, 1 entries copied, 2 MB read")
 
+    @device.needs_compiler
+    def test_compaction_shows_its_rate(self):
+        """A slow device, so that it takes some seconds: megabytes in a second of them."""
+        dead = [(2, it, bytes(2_000_000)) for it in range(10)]
+        log_files.write(
+            self.logs, {0: [(1, 0, b"x"), *dead], 1: [(1, 1, b"x"), (2, 99, bytes(99))]}
+        )
+        more = {**device.failing(self.logs, "read", 0, 0), "FAULT_SLOW": "100000"}
+        began = time.monotonic()
+        shown = self.shown_by("compact", "--dead", "2", self.logs, more=more)
+        least = 20 // (time.monotonic() - began + 1)
+        found = re.findall(rb"entries copied, 20 MB read, (\d+) MB/s", shown)
+        self.assertTrue(found, shown)
+        for rate in map(int, found):
+            self.assertTrue(least <= rate <= 20, (least, shown))
+
     def test_compaction_rests_between_two_lines(self):
         """A tenth of a second at least."""
         began = time.monotonic()
