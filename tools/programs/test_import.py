@@ -102,8 +102,8 @@ class Input(Case):
         self.assertEqual(found["fault"], "read")
 
     def test_more_than_a_cache(self):
-        """The cache has 16,777,216 bytes: it is flushed before the fourth of these entries. None has
-        more than 5,000,000 with its ids."""
+        """The cache has 16,777,216 bytes: it is flushed before the fourth of these entries, which
+        are as long as an entry may be."""
         if kit.Programs.is_slow:
             self.skipTest("the programs are not proved, and take a minute")
         entries = [(1, it, bytes([it]) * 4_999_984) for it in range(4)]

@@ -97,8 +97,8 @@ class Lists(kit.Case):
         self.assertEqual(self.files(), self.before)
 
     def test_line_that_is_no_ledger_is_refused(self):
-        """Each line is one in plain digits, of a list of live ledgers also as the stock shell writes it;
-        what is wrong is named with its line, and nothing is done."""
+        """Each line is one in plain digits, of a list of live ledgers also as the stock shell writes
+        it; what is wrong is named with its line, and nothing is done."""
         wrong = [
             " ",
             "1 ",

@@ -1,5 +1,5 @@
-"""With `--json` each line on both streams is an object, whatever is told; its members are checked where
-a program reads them."""
+"""With `--json` each line on both streams is an object, whatever is told. Its members are those that
+a program looks for."""
 
 import errno
 import json
@@ -16,8 +16,8 @@ ENTRIES = [(1, 0, b"one"), (2, 0, b"two")]
 
 class Case(kit.Case):
     def objects(self, *words, status=None, more=None):
-        """Runs a command with JSON. Returns the objects of its output and of its errors: each line is
-        one."""
+        """Runs a command with JSON. Returns the objects of its output and of its errors, one a
+        line."""
         ran = self.call("--json", *words, more=more)
         if status is not None:
             self.assertEqual(ran.returncode, status, ran.stderr)

@@ -1,5 +1,5 @@
-"""The page of `report`: its numbers, lists and pictures, as the test computes them of the bytes of the
-directory."""
+"""The page of `report`: its numbers, lists and pictures, as the test computes them of the bytes of
+the directory."""
 
 import email.utils
 import os
