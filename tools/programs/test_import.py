@@ -85,10 +85,10 @@ class Input(Case):
                     out.write(records[at : at + 1500])
                     time.sleep(0.002)
 
-        feeding = threading.Thread(target=feed)
+        feeding = threading.Thread(target=feed, daemon=True)
         feeding.start()
         out, errors = self.bookie("import", self.logs, pipe)
-        feeding.join()
+        feeding.join(kit.LIMIT)
         self.assertEqual((out, errors), (f"added {len(entries)} held 0\n", ""))
         self.assertEqual(self.found(), {it[:2]: it[2] for it in entries})
 
