@@ -92,6 +92,9 @@ class Session(kit.Case):
         opened.add(2, b"two")
         self.assertEqual(opened.call("flush").name, "disk")
         self.assertEqual(opened.read(2, 0), b"two")
+        # The ids of an entry count as bytes of its payload.
+        found = opened.call("stats")
+        self.assertEqual((found.cached, found.durable, found.failures), (16 + len(b"two"), 0, 1))
         self.assertEqual(opened.call("flush").entries, 1)
         self.close(opened)
         self.assertEqual(log_files.read(self.logs)[2, 0], b"two")
