@@ -90,6 +90,23 @@ class Script(kit.Case):
 
 
 @device.needs_compiler
+class Opening(kit.Case):
+    CALLS = {"ledgers.manifest": ("open", "read"), "logs.manifest": ("open", "read"), "0.log": ("open", "sync")}
+
+    def test_call_that_fails_is_named(self):
+        """The directory is not opened, and opens again."""
+        self.publish("1 0 one")
+        for name, kinds in self.CALLS.items():
+            for kind in kinds:
+                more = device.failing(self.logs / name, kind, 1, errno.EIO)
+                words = ["script", "--folder", self.logs]
+                found = self.bookie(*words, steps="holds 1 0\n", more=more, status=1)
+                told = f"{self.logs}/{name}: {kind}: Input/output error (os error 5)"
+                self.assertEqual(found, ("", f"fault disk: {told}\n"))
+                self.assertEqual(self.script("holds 1 0"), ["yes"])
+
+
+@device.needs_compiler
 class Session(kit.Case):
     """A log's sync or write fails once in a session."""
 
