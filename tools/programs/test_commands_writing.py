@@ -36,6 +36,13 @@ class Deletions(kit.Case):
         self.assertEqual(self.deleted(), [3, 1])
         self.assertEqual(self.log_names(), ["1.log"])
 
+    def test_ledger_that_is_recorded_is_not_recorded_again(self):
+        for ledgers in ((3,), (3,), (1, 3)):
+            words = [word for it in ledgers for word in ("--dead", it)]
+            self.bookie("compact", *words, self.logs)
+        found = manifest_files.records(self.logs / "ledgers.manifest")
+        self.assertEqual(found, [("deleted", 3), ("deleted", 1)])
+
     def test_each_operand_of_a_script_is_recorded(self):
         self.assertEqual(self.script("holds 2 0", words=["1", "2"]), ["no"])
         self.assertEqual(self.script("holds 1 0", "holds 2 0", "holds 3 0"), ["no", "no", "yes"])
@@ -309,6 +316,17 @@ class Kept(kit.Case):
         (self.logs / "lastMark").symlink_to(self.room / "gone")
         _, errors = self.bookie("compact", "--dead", "1", self.logs, status=1)
         self.assertIn(f"{self.logs}/lastMark", errors)
+
+    def test_trial_counts_the_map_of_many_ledgers(self):
+        """A map has a head for every 10,000 ledgers. The copy is made in pieces of 4,096 entries."""
+        live = [(10 + it, 0, b"") for it in range(10_001)]
+        log_files.write(self.logs, {0: [*live, (2, 0, bytes(900_000))]})
+        words = ["compact", "--dead", "2", self.logs]
+        out, _ = self.bookie(*words, "--dry-run")
+        freed = (self.logs / "0.log").stat().st_size
+        self.bookie(*words)
+        freed -= (self.logs / "1.log").stat().st_size
+        self.assertEqual(out.splitlines()[-1], f"before 1 after 1 freed {freed} moved 10001")
 
     def test_trial_counts_deletions_that_are_recorded(self):
         self.script("delete 1", "delete 2")

@@ -44,6 +44,28 @@ class Load(kit.Case):
         found = list(map(int, latencies.split()[2:7:2]))
         self.assertEqual(found, sorted(found))
 
+    def test_remainder_of_the_adds(self):
+        """The first threads make one add more than the others."""
+        out, _ = self.bookie("load", "--folder", self.logs, "--threads", "4", "--adds", "63")
+        found, deleted, *others = self.figures(out)
+        self.assertEqual((found + deleted, others), (63, [0, 0, 0, 0]))
+        self.assertEqual(len(log_files.read(self.logs)), 63)
+
+    def test_ledgers_are_past_those_of_the_directory(self):
+        """The last ledger has no room for entries of a load behind it, the one before has."""
+        last = (1 << 62) - 1
+        self.publish(f"{last} 0 hello")
+        before = self.files()
+        out, _ = self.bookie("load", "--folder", self.logs, *THREADS)
+        self.assertEqual((self.figures(out)[4:], out.splitlines()[-1]), ([1, 1], "good"))
+        found = {ledger for ledger, _ in log_files.read(self.logs)}
+        self.assertEqual((min(found), min(found - {last})), (last, last + 1))
+        self.publish(f"{last + 2} 0 hello")
+        before = self.files()
+        out, errors = self.bookie("load", "--folder", self.logs, *THREADS, status=1)
+        self.assertEqual((out, errors.splitlines()[0]), ("", "fault no ledger"))
+        self.assertEqual(self.files(), before)
+
     def deletions(self, thousands):
         """Runs a load of one thread, which deletes the last of its eight ledgers after each
         thousand adds. Returns how many logs were compacted: none, if each entry of a deleted ledger

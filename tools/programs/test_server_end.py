@@ -115,6 +115,22 @@ class Failing(kit.Case):
         self.close(self.serve("--compact", "20,80"))
 
 
+    @device.needs_compiler
+    def test_each_failed_step_is_counted(self):
+        """A log without a live entry cannot be removed, in the round of the opening and in that of a deletion."""
+        self.publish("1 0 hello")
+        self.publish("2 0 hello", "3 0 " + "hello" * 100)
+        self.assertEqual(self.script("delete 1"), ["dropped 1"])
+        fault = device.failing(self.logs / "0.log", "remove", 1, errno.EIO, stays=True)
+        opened = self.serve("--compact", "20,80", "--no-hints", more=fault)
+        for number in (1, 2):
+            self.assertTrue(kit.wait_until(lambda: opened.call("stats").failures == number), number)
+            self.assertEqual(opened.call("delete", ledger=2).name, ("dropped", "already_deleted")[number - 1])
+        self.close(opened)
+        self.assertEqual(opened.errors_now(), "note compaction: 2 steps failed\n")
+        self.assertEqual(self.log_names(), ["0.log", "1.log"])
+
+
 class Leases(kit.Case):
     def test_no_lease_is_left(self):
         """A read of an entry that no cache has is by a lease, which ends with it."""
@@ -133,7 +149,7 @@ class Leases(kit.Case):
 class Load(kit.Case):
     """The background goes on while requests come without a pause."""
 
-    def compacted_meanwhile(self, request, *options):
+    def compacted_meanwhile(self, request, *options, **more):
         """Sends a deletion that leaves a log nearly unused, then many requests, ahead of all replies. Returns what the store
         has at their end, as the last of these requests says."""
         opened = self.serve("--compact", "20,80", *options)
@@ -141,7 +157,7 @@ class Load(kit.Case):
         opened.add(2, *[b"much more than that"] * 9)
         self.assertEqual(opened.call("seal").log, 0)
         made = [opened.frame("delete", ledger=2)]
-        made += [opened.frame(request, ledger=1, entry=0) for _ in range(256 * 40)]
+        made += [opened.frame(request, ledger=1, entry=0, **more) for _ in range(256 * 40)]
         made += [opened.frame("stats")]
         # The server leaves requests unread while nobody reads its replies.
         writing = threading.Thread(target=opened.write, args=(b"".join(data for data, _ in made),))
@@ -159,3 +175,7 @@ class Load(kit.Case):
 
     def test_compaction_while_reads_are_shared(self):
         self.assertEqual(self.compacted_meanwhile("read", "--readers", "2"), (1, log_files.FRONT + len(b"hello")))
+
+    def test_compaction_while_adds_come_to_readers(self):
+        found = self.compacted_meanwhile("add", "--readers", "2", content=b"hello")
+        self.assertEqual(found, (1, log_files.FRONT + len(b"hello")))
