@@ -57,7 +57,6 @@ class Load(kit.Case):
         """The last ledger has no room for entries of a load behind it, the one before has."""
         last = (1 << 62) - 1
         self.publish(f"{last} 0 hello")
-        before = self.files()
         out, _ = self.bookie("load", "--folder", self.logs, *THREADS)
         self.assertEqual((self.figures(out)[4:], out.splitlines()[-1]), ([1, 1], "good"))
         found = {ledger for ledger, _ in log_files.read(self.logs)}
