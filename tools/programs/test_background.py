@@ -64,13 +64,6 @@ class Background(kit.Case):
         self.delete(opened, LEDGERS[5:])
         self.stays(["0.log"])
 
-    def test_major_after_a_minor_that_finds_nothing(self):
-        opened = self.open(200, 800)
-        self.fill(opened, 0)
-        self.delete(opened, LEDGERS[5:])
-        self.comes_to(["1.log"])
-        self.assertEqual(log_files.read(self.logs), {(it, 0): content(it, 0) for it in LEDGERS[:5]})
-
     def test_major_of_another_size(self):
         opened = self.open(100, 500)
         self.fill(opened, 0)

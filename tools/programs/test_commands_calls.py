@@ -291,6 +291,14 @@ class Terminal(kit.Case):
         lines = [it for it in shown.split(b"\r\x1b[K") if it]
         self.assertTrue(1 <= len(lines) <= 10 * (time.monotonic() - began) + 1, len(lines))
 
+    def test_compaction_adds_up_the_bytes_that_are_read(self):
+        """A slow device, so that the last line comes after both logs."""
+        log_files.write(self.logs, {log: [(1, log, b"x"), (2, log, bytes(1_500_000))] for log in (0, 1)})
+        more = {**device.failing(self.logs, "read", 0, 0), "FAULT_SLOW": "333333"}
+        shown = self.shown_by("compact", "--dead", "2", self.logs, more=more)
+        found = [int(it) for it in re.findall(rb"(\d+) MB read", shown)]
+        self.assertEqual((found, found[-1:]), (sorted(found), [3]))
+
     @device.needs_compiler
     def test_opening_shows_the_logs_that_are_read(self):
         """A slow device: each read takes a third of a second. Log 0 is opened by its hint."""

@@ -234,6 +234,15 @@ class Kept(kit.Case):
             out, _ = self.bookie(*words, *more)
             self.assertEqual(" compact 1\n" in out, is_taken, more)
 
+    def test_threshold_of_the_call(self):
+        """A third of the log lives: too much for a minor compaction."""
+        live, dead = (1, 0, b"x" * 100), [(2, it, b"x" * 100) for it in range(2)]
+        log_files.write(self.logs, {0: [live, *dead]})
+        for more, left in ((["--minor"], ["0.log"]), (["--below", "333"], ["0.log"]), ([], ["1.log"])):
+            self.bookie("compact", "--dead", "2", *more, self.logs)
+            self.assertEqual(self.log_names(), left, more)
+        self.assertEqual(log_files.read(self.logs), {live[:2]: live[2]})
+
     def test_trial_counts_the_entries_of_each_log(self):
         for log in (0, 1):
             entries = [(1, log, b"x"), (2, log, b"x" * 200)]

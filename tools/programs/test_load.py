@@ -1,7 +1,9 @@
 """The verdict of `load` over a disk that gives other bytes than were written."""
 
 import errno
+import os
 import re
+import subprocess
 
 import device
 import entry_logs
@@ -55,7 +57,6 @@ class Load(kit.Case):
         """The last ledger has no room for entries of a load behind it, the one before has."""
         last = (1 << 62) - 1
         self.publish(f"{last} 0 hello")
-        before = self.files()
         out, _ = self.bookie("load", "--folder", self.logs, *THREADS)
         self.assertEqual((self.figures(out)[4:], out.splitlines()[-1]), ([1, 1], "good"))
         found = {ledger for ledger, _ in log_files.read(self.logs)}
@@ -112,6 +113,24 @@ class Load(kit.Case):
         self.publish("1 0 hello", "1 1 more", "2 0 two")
         out, _ = self.bookie("load", "--folder", self.logs, *THREADS)
         self.assertEqual((self.figures(out)[4:], out.splitlines()[-1]), ([3, 3], "good"))
+
+    def test_earlier_entry_that_is_lost_meanwhile_is_bad(self):
+        """The second entry of the log becomes another record of the first while the load runs."""
+        self.publish("1 0 hello", "1 1 more", "2 0 two")
+        words = [kit.Programs.shell, "load", "--folder", self.logs, "--threads", "1", "--seconds", "1"]
+        how = {"stdout": subprocess.PIPE, "stderr": subprocess.PIPE, "text": True}
+        with subprocess.Popen(list(map(str, words)), **how) as load:
+            self.addCleanup(load.kill)
+            self.assertTrue(kit.wait_until((self.logs / "1.log").exists))
+            with open(self.logs / "0.log", "r+b") as log:
+                log.seek(entry_logs.HEADER + log_files.FRONT + len(b"hello") + log_files.FRONT - 1)
+                self.assertEqual(log.read(1), b"\1")
+                log.seek(-1, os.SEEK_CUR)
+                log.write(b"\0")
+            out, _ = load.communicate(timeout=kit.LIMIT)
+        _, _, lost, unknown, *earlier = self.figures(out)
+        self.assertEqual((lost, unknown, earlier), (0, 0, [2, 3]))
+        self.assertEqual((load.returncode, out.splitlines()[-1]), (1, "bad"))
 
     @device.needs_compiler
     def test_log_that_is_not_read_any_more_is_named(self):

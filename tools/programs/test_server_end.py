@@ -68,6 +68,18 @@ class End(kit.Case):
             self.assertEqual(opened.process.wait(kit.LIMIT), 1)
             self.assertEqual(log_files.read(self.logs)[ledger, 0], b"hello")
 
+    def test_what_was_accepted_is_durable_if_replies_cannot_be_written(self):
+        """A reply that is longer than what the server keeps back, and one that is shorter."""
+        large = b"x" * 100_000
+        for ledger, options in enumerate(WAYS):
+            for entry, (name, fields) in enumerate((("read", {"entry": 0}), ("is_fenced", {}))):
+                opened = self.serve(*options)
+                self.assertEqual(opened.add(ledger, large, first=entry), ["accepted"])
+                opened.process.stdout.close()
+                opened.send(name, ledger=ledger, **fields)
+                self.assertEqual(opened.process.wait(kit.LIMIT), 1)
+                self.assertEqual(log_files.read(self.logs).get((ledger, entry)), large, (options, name))
+
     def test_no_request_is_carried_out_after_replies_cannot_be_written(self):
         for ledger, options in enumerate(WAYS):
             opened = self.serve(*options)
