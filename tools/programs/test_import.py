@@ -112,7 +112,9 @@ class Input(Case):
         self.assertEqual(log_files.read(self.logs), {it[:2]: it[2] for it in entries})
 
     def test_more_logs_than_a_script_holds(self):
-        log_files.write(self.logs, {it: [] for it in range(1025)})
+        self.logs.mkdir()
+        for log in range(1025):
+            (self.logs / log_files.name_of(log)).write_bytes(b"")
         self.assertEqual(self.take(), ("added 4 held 0\n", ""))
         self.assertEqual(log_files.read(self.logs), WANTED)
 
