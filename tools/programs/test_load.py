@@ -121,7 +121,7 @@ class Load(kit.Case):
         how = {"stdout": subprocess.PIPE, "stderr": subprocess.PIPE, "text": True}
         with subprocess.Popen(list(map(str, words)), **how) as load:
             self.addCleanup(load.kill)
-            self.assertTrue(kit.wait_until((self.logs / "1.log").exists))
+            self.assertTrue(kit.wait_until(lambda: self.log_names() != ["0.log"]))
             with open(self.logs / "0.log", "r+b") as log:
                 log.seek(entry_logs.HEADER + log_files.FRONT + len(b"hello") + log_files.FRONT - 1)
                 self.assertEqual(log.read(1), b"\1")
