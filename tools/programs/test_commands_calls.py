@@ -195,7 +195,7 @@ class Rows(kit.Case):
 
     def test_first_row_is_seen_before_the_last(self):
         log_files.write(self.logs, {it: ENTRIES for it in range(3)})
-        more = {**device.failing(self.logs, "read", 0, 0), "FAULT_SLOW": "150000"}
+        more = {**device.failing(self.logs, "read", 0, 0), "FAULT_SLOW": "300000"}
         for words in (
             ["check", self.logs],
             ["check", "--quick", self.logs],
