@@ -34,14 +34,26 @@ def cited(top):
 def page(top):
     words, text = cited(top), HEAD
     for crate in crates(top):
-        files = [it for it in sorted((top / "crates" / crate / "specs").glob("*.antt")) if it.name != "Lib.antt"]
+        files = [
+            it
+            for it in sorted((top / "crates" / crate / "specs").glob("*.antt"))
+            if it.name != "Lib.antt"
+        ]
         items = []
         for file in files:
             source = file.read_text()
             names = ", ".join(f"`{it}`" for it in DEFINED.findall(source) if it in words)
             if names:
                 item = f"- `{file.stem}`: {names}"
-                items.append(textwrap.fill(item, WIDTH, subsequent_indent="  ", break_long_words=False, break_on_hyphens=False))
+                items.append(
+                    textwrap.fill(
+                        item,
+                        WIDTH,
+                        subsequent_indent="  ",
+                        break_long_words=False,
+                        break_on_hyphens=False,
+                    )
+                )
         if items:
             text += f"\n## {crate}\n\n" + "\n".join(items) + "\n"
     return text

@@ -1,7 +1,8 @@
 """Several crates of tests as one crate, for a run without proof.
 
-To compile the tests of one crate, the toolchain reads and compiles all crates below it, which is nearly all of the work. As
-modules of one crate, the tests of many are compiled together, and that work is done once.
+To compile the tests of one crate, the toolchain reads and compiles all crates below it, which is
+nearly all of the work. As modules of one crate, the tests of many are compiled together, and that
+work is done once.
 """
 
 import re
@@ -27,7 +28,9 @@ def can_join(top, crate):
     src = top / "crates" / crate / "src"
     if not (src / "lib.rt").is_file() or not ALONE.fullmatch((src / "lib.rt").read_text()):
         return False
-    return not any(re.search(rf"\bcrate::|\bRattle\.{crate}\b", it.read_text()) for it in src.rglob("*.rt"))
+    return not any(
+        re.search(rf"\bcrate::|\bRattle\.{crate}\b", it.read_text()) for it in src.rglob("*.rt")
+    )
 
 
 def below(lines, crates):
@@ -42,8 +45,9 @@ def below(lines, crates):
 
 
 def make(top, room, crates):
-    """Makes a repository in an empty directory: a crate with the tests of these crates, each a module with the crate's
-    name, and the sources of all crates below. Returns the directory of the crate."""
+    """Makes a repository in an empty directory: a crate with the tests of these crates, each a
+    module with the crate's name, and the sources of all crates below. Returns the directory of the
+    crate."""
     lines = lines_of(top)
     lower = below(lines, crates)
     for it in lower:
@@ -53,7 +57,9 @@ def make(top, room, crates):
         shutil.copytree(top / "crates" / it / "src", src / it)
         (src / it / "lib.rt").rename(src / f"{it}.rt")
         (src / f"{it}.rt").write_text("mod tests;\n")
-    (src / "lib.rt").write_text("#![tactic(auto)]\n\n" + "".join(f"#[cfg(test)]\nmod {it};\n" for it in sorted(crates)))
+    (src / "lib.rt").write_text(
+        "#![tactic(auto)]\n\n" + "".join(f"#[cfg(test)]\nmod {it};\n" for it in sorted(crates))
+    )
     used = sorted({it for crate in crates for it in used_by(lines[crate])})
     own = f"{NAME}: {' '.join(used)}"
     (room / "crates.txt").write_text("\n".join([*(lines[it] for it in sorted(lower)), own, ""]))

@@ -1,4 +1,5 @@
-"""Runs of the toolchain side by side, each in a copy of the crates that it needs, over the libraries that are built."""
+"""Runs of the toolchain side by side, each in a copy of the crates that it needs, over the
+libraries that are built."""
 
 import os
 import re
@@ -26,7 +27,13 @@ class Ended(Exception):
 
 def rt(folder, *words):
     """Runs `rt` in a crate's directory. Returns its status and what it said."""
-    how = {"stdin": subprocess.DEVNULL, "stdout": subprocess.PIPE, "stderr": subprocess.STDOUT, "text": True, "errors": "replace"}
+    how = {
+        "stdin": subprocess.DEVNULL,
+        "stdout": subprocess.PIPE,
+        "stderr": subprocess.STDOUT,
+        "text": True,
+        "errors": "replace",
+    }
     process = subprocess.Popen(["rt", *words], cwd=folder, start_new_session=True, **how)
     RUNNING.add(process)
     said = process.communicate()[0]
@@ -53,23 +60,33 @@ def lanes(room):
 
 
 def in_lanes(names, call):
-    """Calls for each name, side by side as processors and memory allow. Returns the names for which the call gave False."""
+    """Calls for each name, side by side as processors and memory allow. Returns the names for which
+    the call gave False."""
     with ThreadPoolExecutor(lanes(ROOM)) as pool:
         given = list(pool.map(call, names))
     return [it for it, is_well in zip(names, given) if not is_well]
 
 
 def build_below(top, names):
-    """Proves and builds the libraries below these crates that are not built. Returns whether all are."""
+    """Proves and builds the libraries below these crates that are not built. Returns whether all
+    are."""
     below = tried.dependences(top)
     wanted = {deeper for it in names for deeper in below[it]}
-    lacking = [it for it in sorted(wanted, key=lambda it: len(below[it])) if not (top / "crates" / it / "out" / "rlib").is_dir()]
-    return not any(subprocess.run(["rt", "lib"], cwd=top / "crates" / it, stdin=subprocess.DEVNULL).returncode for it in lacking)
+    lacking = [
+        it
+        for it in sorted(wanted, key=lambda it: len(below[it]))
+        if not (top / "crates" / it / "out" / "rlib").is_dir()
+    ]
+    return not any(
+        subprocess.run(["rt", "lib"], cwd=top / "crates" / it, stdin=subprocess.DEVNULL).returncode
+        for it in lacking
+    )
 
 
 def stamps(top):
-    """Returns, of each crate with a built library, the file that notes of which files it is built, and the note that stands
-    for the present ones. Returns nothing if the toolchain has no such note."""
+    """Returns, of each crate with a built library, the file that notes of which files it is built,
+    and the note that stands for the present ones. Returns nothing if the toolchain has no such
+    note."""
     kit = Path(os.path.realpath(shutil.which("rt"))).parent
     if not (kit / "rtlib.py").is_file():
         return {}
@@ -77,26 +94,42 @@ def stamps(top):
     import rtlib
 
     folders = {it: top / "crates" / it for it in tried.libraries(top)}
-    built = [it for it, folder in folders.items() if (folder / "out" / "rlib" / f"{it}.rlib").is_dir()]
-    # A note is made of those of the crates below, which the toolchain computes again for each crate above.
+    built = [
+        it for it, folder in folders.items() if (folder / "out" / "rlib" / f"{it}.rlib").is_dir()
+    ]
+    # A note is made of those of the crates below, which the toolchain computes again for each crate
+    # above.
     one, known = rtlib.Crate.stamp, {}
-    rtlib.Crate.stamp = lambda it: known[it.folder] if it.folder in known else known.setdefault(it.folder, one(it))
+    rtlib.Crate.stamp = (
+        lambda it: known[it.folder] if it.folder in known else known.setdefault(it.folder, one(it))
+    )
     try:
-        return {it: (folders[it] / "out" / "rlib" / "stamp", rtlib.Crate(str(folders[it]), str(top), {}).stamp()) for it in built}
+        return {
+            it: (
+                folders[it] / "out" / "rlib" / "stamp",
+                rtlib.Crate(str(folders[it]), str(top), {}).stamp(),
+            )
+            for it in built
+        }
     finally:
         rtlib.Crate.stamp = one
 
 
 def note_built(top):
-    """Notes of each library that rt ci has left under a directory that it is made of the files there, so that rt check uses
-    it. Without the note, which rt ci does not leave, rt check proves the library again."""
+    """Notes of each library that rt ci has left under a directory that it is made of the files
+    there, so that rt check uses it. Without the note, which rt ci does not leave, rt check proves
+    the library again."""
     for file, stamp in stamps(top).values():
         file.write_text(stamp)
 
 
 def built(top):
     """Returns the crates whose library is built of their present files, and so proved."""
-    return [it for it, (file, stamp) in stamps(top).items() if file.is_file() and file.read_text() == stamp]
+    return [
+        it
+        for it, (file, stamp) in stamps(top).items()
+        if file.is_file() and file.read_text() == stamp
+    ]
 
 
 def link(source, to):
@@ -104,18 +137,30 @@ def link(source, to):
 
 
 def copy_of(top, crate, room):
-    """Makes a copy of the crate with its kept work, beside links to the libraries below it. Returns its directory."""
+    """Makes a copy of the crate with its kept work, beside links to the libraries below it. Returns
+    its directory."""
     below = tried.dependences(top)[crate]
     for name in [crate, *below]:
         for part in PARTS:
             if (top / "crates" / name / part).is_dir():
                 shutil.copytree(top / "crates" / name / part, room / "crates" / name / part)
     for name in below:
-        shutil.copytree(top / "crates" / name / "out" / "rlib", room / "crates" / name / "out" / "rlib", copy_function=link)
+        shutil.copytree(
+            top / "crates" / name / "out" / "rlib",
+            room / "crates" / name / "out" / "rlib",
+            copy_function=link,
+        )
     if (top / "crates" / crate / "out" / "incremental").is_dir():
-        shutil.copytree(top / "crates" / crate / "out" / "incremental", room / "crates" / crate / "out" / "incremental")
+        shutil.copytree(
+            top / "crates" / crate / "out" / "incremental",
+            room / "crates" / crate / "out" / "incremental",
+        )
     lines = (top / "crates.txt").read_text().splitlines()
-    wanted = [it for it in lines if it.partition("#")[0].partition(":")[0].split(" ")[0] in (crate, *below)]
+    wanted = [
+        it
+        for it in lines
+        if it.partition("#")[0].partition(":")[0].split(" ")[0] in (crate, *below)
+    ]
     (room / "crates.txt").write_text("\n".join([*wanted, ""]))
     shutil.copy(top / "HANDLES", room)
     return room / "crates" / crate

@@ -1,5 +1,5 @@
 /* Client of `bk_serve`: see bookie.h. One thread reads replies and puts them into the table of requests. */
-#define _GNU_SOURCE /* F_SETPIPE_SZ, POSIX_SPAWN_SETSID */
+#define _GNU_SOURCE /* F_SETPIPE_SZ, POSIX_SPAWN_SETSID, SOCK_CLOEXEC */
 #include "bookie.h"
 #include <errno.h>
 #include <fcntl.h>
@@ -9,6 +9,8 @@
 #include <spawn.h>
 #include <stdlib.h>
 #include <string.h>
+#include <sys/socket.h>
+#include <sys/un.h>
 #include <sys/wait.h>
 #include <time.h>
 #include <unistd.h>
@@ -149,7 +151,7 @@ typedef struct {
 } unflushed;
 
 struct bookie {
-    pid_t child;
+    pid_t child; /* the server, or 0 if it is a daemon's; then `out` and the file of `in` are one socket */
     int out;
     input in;
     pthread_t reader;
@@ -290,17 +292,22 @@ static size_t deliver(bookie *b, const uint64_t *ids, const bookie_reply *replie
     return done;
 }
 
-/* Writes bytes. Without `waits`, only those that the pipe has room for. Returns how many were written; a write that fails counts,
+/* Writes what the pipe or socket has room for. A socket is read too, so it is not set to O_NONBLOCK, as the pipe is. */
+static ssize_t write_some(const bookie *b, const uint8_t *bytes, size_t length) {
+    return b->child > 0 ? write(b->out, bytes, length) : send(b->out, bytes, length, MSG_DONTWAIT | MSG_NOSIGNAL);
+}
+
+/* Writes bytes. Without `waits`, only those that there is room for. Returns how many were written; a write that fails counts,
  * since the reader then meets the end of the replies. */
-static size_t write_bytes(int file, const uint8_t *bytes, size_t length, int waits) {
+static size_t write_bytes(const bookie *b, const uint8_t *bytes, size_t length, int waits) {
     size_t at = 0;
     while (at < length) {
-        ssize_t n = write(file, bytes + at, length - at);
+        ssize_t n = write_some(b, bytes + at, length - at);
         if (n > 0) at += (size_t)n;
         else if (n < 0 && errno == EINTR) continue;
         else if (n < 0 && errno != EAGAIN) return length;
         else if (!waits) break;
-        else poll(&(struct pollfd){file, POLLOUT, 0}, 1, -1);
+        else poll(&(struct pollfd){b->out, POLLOUT, 0}, 1, -1);
     }
     return at;
 }
@@ -311,7 +318,7 @@ static void write_held(bookie *b, int waits) {
     b->written += b->held_count;
     pthread_mutex_unlock(&b->lock);
     b->held_count = 0;
-    size_t n = write_bytes(b->out, b->held, b->held_bytes, waits);
+    size_t n = write_bytes(b, b->held, b->held_bytes, waits);
     b->held_bytes -= n;
     memmove(b->held, b->held + n, b->held_bytes);
 }
@@ -326,7 +333,7 @@ static void flush_held(bookie *b) {
 static void hold(bookie *b, const void *bytes, size_t length) {
     if (length > sizeof b->held - b->held_bytes) write_held(b, 1);
     if (length > sizeof b->held) {
-        write_bytes(b->out, bytes, length, 1);
+        write_bytes(b, bytes, length, 1);
     } else if (length > 0) {
         memcpy(b->held + b->held_bytes, bytes, length);
         b->held_bytes += length;
@@ -524,6 +531,20 @@ static int start(bookie *b, char *const command[]) {
     return failed;
 }
 
+/* Connects to the daemon at a path. Its socket has two numbers: one is closed before the other. */
+static int reach(bookie *b, const char *path) {
+    struct sockaddr_un address = {.sun_family = AF_UNIX};
+    if (strlen(path) >= sizeof address.sun_path) return -1;
+    memcpy(address.sun_path, path, strlen(path) + 1);
+    b->in.file = lift(socket(AF_UNIX, SOCK_STREAM | SOCK_CLOEXEC, 0));
+    if (b->in.file < 0) return -1;
+    b->out = fcntl(b->in.file, F_DUPFD_CLOEXEC, 3);
+    if (b->out >= 0 && connect(b->in.file, (struct sockaddr *)&address, sizeof address) == 0) return 0;
+    close(b->in.file);
+    close(b->out);
+    return -1;
+}
+
 static void let_go(bookie *b) {
     for (size_t i = 0; i < BUCKETS; i++)
         while (b->table[i] != NULL) {
@@ -538,33 +559,45 @@ static void let_go(bookie *b) {
     free(b);
 }
 
-/* Closes the pipes and waits for the server. A second call does nothing. */
+/* Ends the input of the server. */
+static void end_input(bookie *b) {
+    if (b->child == 0) shutdown(b->out, SHUT_WR);
+    close(b->out);
+    b->out = -1; /* so that a later write fails */
+}
+
+/* Waits for the server, if it is a child. */
+static void wait_for_child(bookie *b) {
+    while (b->child > 0 && waitpid(b->child, &b->status, 0) < 0 && errno == EINTR) continue;
+}
+
+/* Ends the session. A second call does nothing. */
 static void end(bookie *b) {
     if (b->is_ended) return;
     b->is_ended = 1;
     pthread_mutex_lock(&b->writing);
-    close(b->out);
-    b->out = -1; /* so that a later write fails */
+    end_input(b);
     pthread_mutex_unlock(&b->writing);
-    while (waitpid(b->child, &b->status, 0) < 0 && errno == EINTR) continue;
+    wait_for_child(b);
     pthread_join(b->reader, NULL);
     close(b->in.file);
 }
 
-static int open_once(char *const command[], bookie **out) {
+/* Starts the server with this command, or connects to the daemon at this path. */
+static int open_once(char *const command[], const char *path, bookie **out) {
     bookie *b = calloc(1, sizeof *b);
     if (b == NULL) return BOOKIE_INVALID;
     b->limits[2] = 1;
     pthread_mutex_init(&b->lock, NULL);
     pthread_mutex_init(&b->writing, NULL);
     pthread_cond_init(&b->changed, NULL);
-    if (start(b, command) < 0) {
+    if ((path != NULL ? reach(b, path) : start(b, command)) < 0) {
         let_go(b);
         return BOOKIE_GONE;
     }
     if (pthread_create(&b->reader, NULL, read_replies, b) != 0) {
-        close(b->out);
-        while (waitpid(b->child, NULL, 0) < 0 && errno == EINTR) continue;
+        end_input(b);
+        wait_for_child(b);
         close(b->in.file);
         let_go(b);
         return BOOKIE_GONE;
@@ -591,32 +624,42 @@ static uint64_t now(void) {
     return (uint64_t)at.tv_sec * 1000 + (uint64_t)at.tv_nsec / 1000000;
 }
 
-int bookie_open_within(char *const command[], unsigned milliseconds, bookie **out) {
+static int open_within(char *const command[], const char *path, unsigned milliseconds, bookie **out) {
     *out = NULL;
-    signal(SIGPIPE, SIG_IGN);
     uint64_t until = now() + milliseconds;
     for (uint64_t pause = PAUSE;; pause = pause < LONGEST / 2 ? 2 * pause : LONGEST) {
-        int status = open_once(command, out);
+        int status = open_once(command, path, out);
         if (status != BOOKIE_IN_USE || now() + pause > until) return status;
         nanosleep(&(struct timespec){(time_t)(pause / 1000), (long)(pause % 1000 * 1000000)}, NULL);
     }
+}
+
+int bookie_open_within(char *const command[], unsigned milliseconds, bookie **out) {
+    signal(SIGPIPE, SIG_IGN);
+    return open_within(command, NULL, milliseconds, out);
 }
 
 int bookie_open(char *const command[], bookie **out) {
     return bookie_open_within(command, WAIT, out);
 }
 
+int bookie_connect(const char *path, bookie **out) {
+    return open_within(NULL, path, WAIT, out);
+}
+
 int bookie_close(bookie *b) {
     int answer = b->is_ended ? BOOKIE_GONE : bookie_ask(b, BOOKIE_CLOSE, NULL, NULL, 0, NULL);
     end(b);
     /* Without memory for the request the server meets the end of its input, and its exit status says whether it flushed. */
-    int status = b->status == 0 && answer != BOOKIE_CLOSED && answer != BOOKIE_INVALID ? -1 : b->status;
+    int is_durable = answer == BOOKIE_CLOSED || (answer == BOOKIE_INVALID && b->child > 0);
+    int status = !is_durable && (b->status == 0 || b->child == 0) ? -1 : b->status;
     let_go(b);
     return status;
 }
 
 void bookie_kill(bookie *b) {
-    kill(b->child, SIGKILL);
+    if (b->child > 0) kill(b->child, SIGKILL);
+    else shutdown(b->in.file, SHUT_RDWR);
     end(b);
 }
 

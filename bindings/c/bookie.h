@@ -1,4 +1,4 @@
-/* Client of `bk_serve` (../protocol.md): one directory, served by a child process. C11 and POSIX.
+/* Client of `bk_serve` (../protocol.md): one directory, served by a child process, or by a daemon (`bookie_connect`). C11 and POSIX.
  *
  *     bookie *b;
  *     char *command[] = {"bk_serve", "/var/bookie", NULL};
@@ -154,7 +154,14 @@ int bookie_open(char *const command[], bookie **out);
 /* The same with another time, which may be 0. */
 int bookie_open_within(char *const command[], unsigned milliseconds, bookie **out);
 
-/* The process id of the server. */
+/* Opens a session with a daemon (../../tools/daemon) by the path of its socket. Returns as bookie_open; BOOKIE_GONE if no daemon
+ * answers there, and BOOKIE_IN_USE if it had as many clients as it takes for ten seconds.
+ *
+ * The calls are the same. bookie_close flushes and ends this session, not the server: it returns 0, or -1 if the daemon did not say that
+ * everything is durable. bookie_kill ends it without waiting for the flush. */
+int bookie_connect(const char *path, bookie **out);
+
+/* The process id of the server, or 0 if it is a daemon's. */
 pid_t bookie_pid(const bookie *b);
 
 /* The limits of the session: version, largest frame, requests in flight, ids of a page. */

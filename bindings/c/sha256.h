@@ -1,4 +1,4 @@
-/* SHA-256, for the test of the client alone. */
+/* SHA-256, for the test and the example of the client. */
 #ifndef SHA256_H
 #define SHA256_H
 #include <stddef.h>

@@ -1,4 +1,4 @@
-//! SHA-256, for the test of the client alone.
+//! SHA-256, for the test and the example of the client.
 
 const PRIMES: [u64; 64] = [
     2, 3, 5, 7, 11, 13, 17, 19, 23, 29, 31, 37, 41, 43, 47, 53, 59, 61, 67, 71, 73, 79, 83, 89, 97, 101, 103, 107, 109,

@@ -7,6 +7,8 @@ import unittest
 from daemons import HERE, TOP, Case, Programs
 from bookie import Bookie, Ended, Refused  # noqa: E402
 
+C = ["-std=c11", "-O1", "-Wall", "-Wextra", "-Werror", "-pedantic"]
+
 
 def out(words, **how):
     return subprocess.run([str(it) for it in words], check=True, stdout=subprocess.PIPE, text=True, **how).stdout
@@ -36,6 +38,15 @@ class Clients(Case):
         self.assertEqual([it.split(":")[0] for it in said.splitlines()], ["round 1", "round 2", "best"])
         with Bookie.connect(daemon.socket) as bookie:
             self.assertEqual([bookie.last_entry(it) for it in (1, 2)], [299, 299])
+
+    @unittest.skipUnless(shutil.which("gcc"), "no gcc")
+    def test_c(self):
+        daemon, sources, program = self.daemon(), TOP / "bindings" / "c", self.room / "connects"
+        out(["gcc", *C, "-I", sources, "-o", program, HERE / "connects.c", sources / "bookie.c", "-lpthread"])
+        said = out([program, daemon.socket])
+        self.assertEqual(said.splitlines(), ["600 entry hello negative 600 0", "1 0 gone -1 gone"])
+        self.assertEqual(daemon.end(), 0)
+        self.assertEqual(len(self.stored()), 601)
 
     @unittest.skipUnless(shutil.which("javac"), "no javac")
     def test_java(self):

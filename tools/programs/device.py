@@ -10,7 +10,7 @@ from pathlib import Path
 import kit
 
 HERE = Path(__file__).resolve().parent
-SOURCES = {"reads": HERE / "reads.c", "faults": kit.TOP / "bench" / "faults.c"}
+SOURCES = {"reads": HERE / "reads.c", "faults": kit.TOP / "tools" / "faults" / "faults.c"}
 NEW_MOUNTS = 0x00020000
 needs_compiler = unittest.skipUnless(shutil.which("gcc"), "no gcc, which compiles a library")
 

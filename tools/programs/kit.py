@@ -10,7 +10,7 @@ import unittest
 from pathlib import Path
 
 TOP = Path(__file__).resolve().parent.parent.parent
-sys.path[:0] = [str(TOP / "bench"), str(TOP / "bindings" / "python")]
+sys.path[:0] = [str(TOP / "tools" / "logs"), str(TOP / "bindings" / "python")]
 
 import session  # noqa: E402
 

@@ -6,6 +6,7 @@ import os
 import pty
 import re
 import subprocess
+import time
 from pathlib import Path
 
 import device
@@ -104,7 +105,6 @@ class Failing(kit.Case):
         self.assertTrue(out.startswith("fault "), out)
         self.assertIn(f"{self.logs}/{LEDGERS}: sync: ", errors)
 
-
     @device.needs_compiler
     def test_call_that_fails_is_named_with_the_fault(self):
         log_files.write(self.logs, {0: ENTRIES})
@@ -135,6 +135,83 @@ class Failing(kit.Case):
         both = [sorted(Path(it).name for it in places) for places in found]
         self.assertIn(["1.log", LOGS], both)
 
+    @device.needs_compiler
+    def test_calls_that_fail_alike_are_told_once(self):
+        """Reads of a log fail, and then its removal: a line for each kind of call."""
+        steps = ["take 0 1 0", *["fetch 0"] * 3, "release 0", "delete 1", "delete 2", "retire 0"]
+        steps += ["close 0", "remove 0", "remove 0"]
+        place = f"{self.logs}/0.log"
+        for number in range(4, 8):
+            log_files.write(self.logs, {0: ENTRIES})
+            more = device.failing(self.logs / "0.log", "", number, errno.EIO, stays=True)
+            more["FAULT_KINDS"] = ",read,remove,"
+            words = ["script", "--no-manifest", "--folder", self.logs]
+            ran = self.call(*words, steps="".join(f"{it}\n" for it in steps), more=more)
+            if ran.returncode == 0:
+                break
+        self.assertEqual(ran.stdout.decode().splitlines().count("fault disk"), 5)
+        told = [it.split(": ")[:2] for it in ran.stderr.decode().splitlines()]
+        self.assertEqual(told, [[place, "read"], [place, "remove"]])
+
+    @device.needs_compiler
+    def test_log_that_is_there_already_is_told(self):
+        log_files.write(self.logs, {0: ENTRIES})
+        more = device.failing(self.logs / "1.log", "open", 1, errno.EEXIST)
+        words = ["script", "--no-manifest", "--folder", self.logs]
+        steps = "add 3 0 hello\nswap\nwrite\nwrite\npublish\n"
+        out, errors = self.bookie(*words, steps=steps, more=more)
+        self.assertEqual(out.splitlines()[2], "fault odd disk")
+        self.assertTrue(errors.startswith(f"{self.logs}/1.log: create: File exists"), errors)
+
+    @device.needs_compiler
+    def test_log_that_goes_before_its_length_is_read(self):
+        """The system does not find the file at one look: a trial goes on without it."""
+        found = []
+        for number in range(1, 7):
+            log_files.write(self.logs, {0: ENTRIES, 1: [(3, 0, b"three")]})
+            more = device.failing(self.logs / "0.log", "stat", number, errno.ENOENT)
+            ran = self.call("compact", "--dry-run", "--no-manifest", self.logs, more=more)
+            found.append((ran.returncode, ran.stdout))
+        for count in (1, 2):
+            self.assertIn((0, b"before %d after %d freed 0 moved 0\n" % (count, count)), found)
+
+    @device.needs_compiler
+    def test_export_writes_no_entry_twice(self):
+        """Log 1 is not found at one look: all logs are read again, and the export goes on."""
+        log_files.write(self.logs, {0: [(1, 0, b"one")], 1: [(1, 1, b"two")]})
+        first, second = f"0 {b'one'.hex()}\n", f"1 {b'two'.hex()}\n"
+        found = set()
+        for kind in ("open", "stat"):
+            for number in range(3, 12):
+                more = device.failing(self.logs / "1.log", kind, number, errno.ENOENT)
+                words = ["export", "--no-manifest", self.logs, "1"]
+                found.add(self.bookie(*words, more=more))
+        self.assertEqual(found, {(first, ""), (first + second, "")})
+
+
+@device.needs_compiler
+class Rows(kit.Case):
+    """A row is seen as soon as it is known: the device is slow, and the next log takes its time."""
+
+    def test_first_row_is_seen_before_the_last(self):
+        log_files.write(self.logs, {it: ENTRIES for it in range(3)})
+        more = {**device.failing(self.logs, "read", 0, 0), "FAULT_SLOW": "300000"}
+        for words in (
+            ["check", self.logs],
+            ["check", "--quick", self.logs],
+            ["check", "--digest", "crc32", self.logs],
+            ["stat", self.logs],
+            ["hint", self.logs],
+            ["hint", "--check", self.logs],
+        ):
+            words = [str(kit.Programs.shell), *map(str, words)]
+            how = {"stdout": subprocess.PIPE, "env": {**os.environ, **more}}
+            with subprocess.Popen(words, **how) as ran:
+                ran.stdout.readline()
+                first = time.monotonic()
+                ran.stdout.read()
+                self.assertGreater(time.monotonic() - first, 0.2, words)
+
 
 class Terminal(kit.Case):
     """The standard input or the error stream is a terminal."""
@@ -151,6 +228,14 @@ class Terminal(kit.Case):
         ran = subprocess.run(words, stdin=self.slave, capture_output=True, timeout=kit.LIMIT)
         self.assertEqual((ran.returncode, ran.stdout), (0, b"no\n"))
         self.assertIn(b"reading the steps from the terminal until Ctrl-D", ran.stderr)
+
+    def test_other_commands_do_not_say_so(self):
+        self.addCleanup(os.close, self.slave)
+        log_files.write(self.logs, {0: ENTRIES})
+        for words in (["check", self.logs], ["--version"], ["help", "script"]):
+            words = [str(kit.Programs.shell), *map(str, words)]
+            ran = subprocess.run(words, stdin=self.slave, capture_output=True, timeout=kit.LIMIT)
+            self.assertEqual((ran.returncode, ran.stderr), (0, b""))
 
     def shown_by(self, *words, more=None):
         """Runs the shell. Returns what is shown of the progress, which is cleared at the end."""
@@ -182,6 +267,37 @@ class Terminal(kit.Case):
     def test_compaction_shows_the_bytes_that_are_read(self):
         shown = self.shown({0: [(1, 0, b"x"), (2, 0, bytes(2_000_000))]})
         self.assertRegex(shown, rb"^\r\x1b\[K0 of 1 logs, 1 entries copied, 2 MB read")
+
+    @device.needs_compiler
+    def test_compaction_shows_its_rate(self):
+        """A slow device, so that it takes some seconds: megabytes in a second of them."""
+        dead = [(2, it, bytes(2_000_000)) for it in range(10)]
+        log_files.write(
+            self.logs, {0: [(1, 0, b"x"), *dead], 1: [(1, 1, b"x"), (2, 99, bytes(99))]}
+        )
+        more = {**device.failing(self.logs, "read", 0, 0), "FAULT_SLOW": "100000"}
+        began = time.monotonic()
+        shown = self.shown_by("compact", "--dead", "2", self.logs, more=more)
+        least = 20 // (time.monotonic() - began + 1)
+        found = re.findall(rb"entries copied, 20 MB read, (\d+) MB/s", shown)
+        self.assertTrue(found, shown)
+        for rate in map(int, found):
+            self.assertTrue(least <= rate <= 20, (least, shown))
+
+    def test_compaction_rests_between_two_lines(self):
+        """A tenth of a second at least."""
+        began = time.monotonic()
+        shown = self.shown({log: [(1, log, b"x"), (2, log, bytes(100))] for log in range(60)})
+        lines = [it for it in shown.split(b"\r\x1b[K") if it]
+        self.assertTrue(1 <= len(lines) <= 10 * (time.monotonic() - began) + 1, len(lines))
+
+    def test_compaction_adds_up_the_bytes_that_are_read(self):
+        """A slow device, so that the last line comes after both logs."""
+        log_files.write(self.logs, {log: [(1, log, b"x"), (2, log, bytes(1_500_000))] for log in (0, 1)})
+        more = {**device.failing(self.logs, "read", 0, 0), "FAULT_SLOW": "333333"}
+        shown = self.shown_by("compact", "--dead", "2", self.logs, more=more)
+        found = [int(it) for it in re.findall(rb"(\d+) MB read", shown)]
+        self.assertEqual((found, found[-1:]), (sorted(found), [3]))
 
     @device.needs_compiler
     def test_opening_shows_the_logs_that_are_read(self):

@@ -1,5 +1,6 @@
 """Commands that read: what is wrong with a directory is told, with status 1; each option counts."""
 
+import json
 import re
 import unittest
 
@@ -98,7 +99,9 @@ class Unread(kit.Case):
         (self.logs / "1.log").unlink()
         kit.flip(self.logs / "0.log", 0)
         for words in (
-            ["find", self.logs, "2", "0"], ["ledgers", self.logs], ["entries", self.logs, "1"]
+            ["find", self.logs, "2", "0"],
+            ["ledgers", self.logs],
+            ["entries", self.logs, "1"],
         ):
             _, errors = self.bookie(*words, status=1)
             self.assertIn("fault log 0: bad magic", errors)
@@ -231,7 +234,10 @@ class Parts(kit.Case):
 
     def test_entries_of_a_range(self):
         for words, wanted in (
-            ([], range(6)), (["2"], range(2, 6)), (["2", "4"], range(2, 5)), (["0", "0"], range(1))
+            ([], range(6)),
+            (["2"], range(2, 6)),
+            (["2", "4"], range(2, 5)),
+            (["0", "0"], range(1)),
         ):
             out = self.bookie("entries", self.logs, "1", *words)[0].splitlines()
             self.assertEqual([int(it.split()[0]) for it in out], list(wanted))
@@ -254,6 +260,32 @@ class Hints(kit.Case):
         found = [" ".join(it.split()[:2]) for it in out.splitlines()]
         self.assertEqual(found, ["0 right", "1 wrong", "2 none", "9 no"])
 
+    def test_check_says_why(self):
+        """A hint that is wrong is status 1; a log that has none, or gets none, is status 0."""
+        (self.logs / "1.hint").unlink()
+        (self.logs / "4.log").write_bytes(log_files.open_log([(4, 0, b"four")]))
+        out, errors = self.bookie("hint", "--check", self.logs)
+        self.assertEqual((out, errors), ("0 right\n1 none\n2 right\n4 unsealed\n", ""))
+        kit.flip(self.logs / "0.hint", 40)
+        (self.logs / "2.hint").write_bytes(b"hint")
+        out, errors = self.bookie("hint", "--check", self.logs, status=1)
+        wanted = ["0 wrong bad hint checksum", "1 none", "2 wrong short hint 4", "4 unsealed"]
+        self.assertEqual((out.splitlines(), errors), (wanted, ""))
+        out, _ = self.bookie("--json", "hint", "--check", self.logs, status=1)
+        objects = [json.loads(it) for it in out.splitlines()]
+        self.assertEqual(objects[2], {"log": 2, "state": "wrong", "why": "short hint 4"})
+        self.assertEqual(objects[3], {"log": 4, "state": "unsealed"})
+
+    def test_hints_that_are_made_are_shown(self):
+        kit.flip(self.logs / "0.hint", 40)
+        (self.logs / "1.hint").unlink()
+        (self.logs / "4.log").write_bytes(log_files.open_log([(4, 0, b"four")]))
+        out, errors = self.bookie("hint", self.logs)
+        size = (self.logs / "2.hint").stat().st_size
+        lines = [f"{log} bytes {size}" for log in (0, 1)]
+        lines.append("made 2 kept 1 unsealed 1 unfit 0 removed 0")
+        self.assertEqual((out.splitlines(), errors), (lines, ""))
+
     def test_hints_of_logs_that_are_gone_are_removed(self):
         hint = (self.logs / "0.hint").read_bytes()
         for name in ("9.hint", "8.hint.new", "0.hint.new"):
@@ -273,6 +305,16 @@ class Hints(kit.Case):
     def test_hint_goes_with_its_log(self):
         self.bookie("compact", "--dead", "1", self.logs)
         self.assertEqual(sorted(it.name for it in self.logs.glob("*.hint")), ["0.hint", "2.hint"])
+
+    def test_hint_that_is_not_used_is_noted_once(self):
+        """Though the export reads its log again and again."""
+        log_files.write(self.logs, {it: [(1, it, b"x"), (1, it + 9, b"y")] for it in range(2)})
+        self.bookie("hint", self.logs)
+        kit.flip(self.logs / "0.hint", 40)
+        keys = [(0, 0), (1, 0), (9, 1), (10, 1)]
+        out, errors = self.bookie("export", self.logs, "1")
+        self.assertEqual(out.splitlines(), [f"{it} {b'xy'[at:at + 1].hex()}" for it, at in keys])
+        self.assertEqual(errors, "note hint not used: log 0: bad hint checksum\n")
 
     def test_hint_that_is_not_used_is_noted(self):
         kit.flip(self.logs / "1.hint", 40)

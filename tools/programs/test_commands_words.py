@@ -1,6 +1,7 @@
 """Command lines that are wrong end with status 2 and change nothing; what is told of a fault."""
 
 import json
+import re
 import subprocess
 
 import kit
@@ -20,6 +21,10 @@ class Words(kit.Case):
             ["compact", "--dead", "1", "--dead", "x", self.logs],
             ["compact", "--dead", "1", "--dead", str(1 << 63), self.logs],
             ["compact", "--below", "1001", self.logs],
+            ["script", "--slots", "0"],
+            ["script", "--slots", "65537"],
+            ["script", "--log-limit", "2047"],
+            ["script", "--folder", self.logs, "x"],
             ["compact", "--minor", "--major", self.logs],
             ["compact", "--minor", "--below", "5", self.logs],
             ["manifest", "--check", "--rebuild", self.logs],
@@ -75,3 +80,87 @@ class Words(kit.Case):
         self.assertTrue(errors.splitlines()[1].startswith("help: --live-none "))
         found = json.loads(self.bookie("--json", *words, status=1)[1])
         self.assertTrue(found["help"].startswith("--live-none "))
+
+
+class Meant(kit.Case):
+    """What is told of a word that is none, so that the right one is found."""
+
+    def told(self, *words):
+        out, errors = self.bookie(*words, status=2)
+        self.assertEqual(out, "")
+        return errors.splitlines()
+
+    def test_near_command_is_named(self):
+        for word, name in (
+            ("chek", "check"),
+            ("lods", "logs"),
+            ("scrpt", "script"),
+            ("laod", "load"),
+        ):
+            lines = self.told(word, self.logs)
+            self.assertEqual(lines[0], f"error: unrecognized command '{word}'; there is '{name}'")
+
+    def test_far_word_lists_the_commands(self):
+        for word in ("chks", "nothing"):
+            lines = self.told(word, self.logs)
+            self.assertEqual(lines[0], f"error: unrecognized subcommand '{word}'")
+            listed = [it.split()[0] for it in lines if it.startswith("  ")]
+            self.assertLessEqual({"check", "seal", "script", "load"}, set(listed))
+
+    def test_commands_are_listed_in_columns(self):
+        out, errors = self.bookie("--help")
+        self.assertEqual((out.splitlines()[0], errors), ("Entry log storage of a bookie", ""))
+        rows = re.findall(r"^  (\w+ DIR.*?|\w+)(  +)([A-Z].*)$", out, re.M)
+        self.assertGreater(len(rows), 17)
+        self.assertEqual({len(usage) + len(space) for usage, space, _ in rows}, {38})
+
+    def test_usage_has_each_operand(self):
+        for words, usage in (
+            (["map", self.logs, "x"], "map [OPTIONS] <DIR> <LOG>"),
+            (["entries", self.logs, "1", "x"], "entries [OPTIONS] <DIR> <LEDGER> [FIRST] [LAST]"),
+            (["seal", self.logs], "seal [OPTIONS] <DIR> [LOG]"),
+        ):
+            self.assertIn(f"Usage: bookie {usage}", self.told(*words))
+
+    def test_id_of_a_name_without_its_end(self):
+        for word, more in (("1f", "; the file 1f.log is log 31"), ("g", ""), ("1F", "")):
+            line = f"error: invalid value '{word}' for '<LOG>': not a number from 0 to 2147483647"
+            self.assertEqual(self.told("map", self.logs, word)[0], f"{line} in plain digits{more}")
+
+    def test_greatest_values(self):
+        last = (1 << 63) - 1
+        entries = [(last, 0, b"one"), (last, last - 1, b"two"), (last, last, b"three")]
+        log_files.write(self.logs, {(1 << 31) - 1: entries})
+        out, _ = self.bookie("entries", self.logs, last)
+        self.assertEqual([int(it.split()[0]) for it in out.splitlines()], [it[1] for it in entries])
+        out, _ = self.bookie("export", self.logs, last, last)
+        self.assertEqual(out, f"{last} {b'three'.hex()}\n")
+        for word in ((1 << 31) - 1, "7fffffff.log"):
+            out, _ = self.bookie("map", self.logs, word)
+            self.assertEqual(out, f"{last} {sum(log_files.sizes_of(entries).values())}\n")
+        for words in (["map", self.logs, 1 << 31], ["entries", self.logs, last + 1]):
+            self.assertIn(f"invalid value '{words[-1]}'", self.told(*words)[0])
+
+    def test_choices_are_named(self):
+        line = "error: invalid value 'md5' for '--digest <KIND>': not crc32c, crc32 or auto"
+        self.assertEqual(self.told("check", "--digest", "md5", self.logs)[0], line)
+
+    def test_second_value_is_named(self):
+        lines = self.told("compact", "--dead", "1", "--dead", "x", self.logs)
+        self.assertIn("error: invalid value 'x' for '<LEDGER>'", lines[0])
+
+    def test_near_option_of_a_directory(self):
+        for word, name in (
+            ("--no-manifst", "no-manifest"),
+            ("--foldr", "folder"),
+            ("--slot", "slots"),
+        ):
+            self.assertIn(f"there is '--{name}'", self.told("script", word)[0])
+        self.assertEqual(
+            self.told("script", "--nothing")[0], "error: unexpected argument '--nothing' found"
+        )
+
+    def test_version(self):
+        first = self.bookie("--version")[0].splitlines()[0]
+        self.assertRegex(first, r"^bookie \d+\.\d+\.\d+$")
+        self.assertEqual(self.bookie("-V")[0].splitlines()[0], first)

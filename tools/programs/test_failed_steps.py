@@ -18,11 +18,12 @@ class Script(kit.Case):
         super().setUp()
         self.publish("1 0 one")
 
-    def failing(self, kind, number, *steps, name="1.log"):
+    def failing(self, kind, number, *steps, name="1.log", words=()):
         """Runs steps of which one fails. Returns the answers and the errors."""
         more = device.failing(self.logs / name, kind, number, errno.EIO)
         text = "".join(f"{it}\n" for it in steps)
-        out, errors = self.bookie("script", "--folder", self.logs, steps=text, more=more)
+        words = ["script", "--folder", self.logs, *words]
+        out, errors = self.bookie(*words, steps=text, more=more)
         return out.splitlines(), errors
 
     def test_failed_write_is_done_again(self):
@@ -46,6 +47,18 @@ class Script(kit.Case):
         found = [it.split()[0] for it in again[2:6]]
         self.assertEqual(found, ["wrote", "wrote", "all", "published"])
         self.assertEqual(log_files.read(self.logs)[2, 1], b"more")
+
+    def test_failed_create_writes_the_entries_again(self):
+        """The second entry needs a log of its own, which cannot be made at first."""
+        text = "x" * 900
+        steps = [f"add 2 0 {text}", f"add 2 1 {text}", "swap", *WRITES, *WRITES, "write", "publish"]
+        found, errors = self.failing("open", 1, *steps, name="2.log", words=["--log-limit", "2048"])
+        self.assertEqual([it.split()[0] for it in found[:4]], ["accepted", "accepted", "swapped", "wrote"])
+        self.assertEqual((found[4], found[8]), ("fault disk", "published 2"))
+        self.assertEqual([it.split()[0] for it in found[5:8]], ["wrote", "wrote", "all"])
+        self.assertIn(f"{self.logs}/2.log: create", errors)
+        wanted = {(1, 0): b"one", **{(2, it): text.encode() for it in range(2)}}
+        self.assertEqual(log_files.read(self.logs), wanted)
 
     def test_steps_after_a_failure_are_done(self):
         steps = ["add 2 0 two", "swap", "write", "take 0 1 0", "fetch 0", "fence 7", "fenced 7"]
@@ -77,6 +90,23 @@ class Script(kit.Case):
 
 
 @device.needs_compiler
+class Opening(kit.Case):
+    CALLS = {"ledgers.manifest": ("open", "read"), "logs.manifest": ("open", "read"), "0.log": ("open", "sync")}
+
+    def test_call_that_fails_is_named(self):
+        """The directory is not opened, and opens again."""
+        self.publish("1 0 one")
+        for name, kinds in self.CALLS.items():
+            for kind in kinds:
+                more = device.failing(self.logs / name, kind, 1, errno.EIO)
+                words = ["script", "--folder", self.logs]
+                found = self.bookie(*words, steps="holds 1 0\n", more=more, status=1)
+                told = f"{self.logs}/{name}: {kind}: Input/output error (os error 5)"
+                self.assertEqual(found, ("", f"fault disk: {told}\n"))
+                self.assertEqual(self.script("holds 1 0"), ["yes"])
+
+
+@device.needs_compiler
 class Session(kit.Case):
     """A log's sync or write fails once in a session."""
 
@@ -92,6 +122,9 @@ class Session(kit.Case):
         opened.add(2, b"two")
         self.assertEqual(opened.call("flush").name, "disk")
         self.assertEqual(opened.read(2, 0), b"two")
+        # The ids of an entry count as bytes of its payload.
+        found = opened.call("stats")
+        self.assertEqual((found.cached, found.durable, found.failures), (16 + len(b"two"), 0, 1))
         self.assertEqual(opened.call("flush").entries, 1)
         self.close(opened)
         self.assertEqual(log_files.read(self.logs)[2, 0], b"two")

@@ -110,6 +110,18 @@ class Failing(kit.Case):
             self.assertEqual(opened.errors_now(), f"note hint not written: log 1: {told}\n")
             self.assertEqual(self.hints(), ["0.hint", "2.hint"])
 
+    def test_server_notes_it_once(self):
+        """Each log that is sealed begins another try, and the last one comes to an end with the session."""
+        more = device.failing(self.logs / "1.hint.new", "open", 1, errno.EIO, stays=True)
+        opened = self.serve(more=more)
+        for entry in (10, 11):
+            self.assertEqual(opened.add(1, b"x", first=entry), ["accepted"])
+            hint = self.logs / f"{opened.call('seal').log:x}.hint"
+            self.assertTrue(kit.wait_until(hint.exists), hint)
+        self.close(opened)
+        told = f"disk: {self.logs}/1.hint.new: create: Input/output error (os error 5)"
+        self.assertEqual(opened.errors_now(), f"note hint not written: log 1: {told}\n")
+
     def test_log_that_is_not_synced_gets_none(self):
         """It is set aside, since the kernel may have dropped what it could not write."""
         more = device.failing(self.logs / "1.log", "sync", 1, errno.EIO)

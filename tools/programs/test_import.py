@@ -3,6 +3,9 @@ and a device that fails while the entries are written."""
 
 import errno
 import json
+import os
+import threading
+import time
 
 import device
 import kit
@@ -66,6 +69,54 @@ class Counts(Case):
             self.file.write_bytes(self.call("export", "--raw", old, ledger).stdout)
             self.assertEqual(self.take()[0], "added 9 held 0\n")
         self.assertEqual(self.found(), log_files.read(old))
+
+
+class Input(Case):
+    """What the file is, and how much is in it."""
+
+    def test_pipe_that_gives_pieces(self):
+        entries = [*ENTRIES, (4, 0, bytes(range(256)) * 80)]
+        records, pipe = log_files.records(entries), self.room / "pipe"
+        os.mkfifo(pipe)
+
+        def feed():
+            with open(pipe, "wb", buffering=0) as out:
+                for at in range(0, len(records), 1500):
+                    out.write(records[at : at + 1500])
+                    time.sleep(0.002)
+
+        feeding = threading.Thread(target=feed, daemon=True)
+        feeding.start()
+        out, errors = self.bookie("import", self.logs, pipe)
+        feeding.join(kit.LIMIT)
+        self.assertEqual((out, errors), (f"added {len(entries)} held 0\n", ""))
+        self.assertEqual(self.found(), {it[:2]: it[2] for it in entries})
+
+    def test_directory_is_not_read(self):
+        self.file.unlink()
+        self.file.mkdir()
+        out, errors = self.take(status=1)
+        self.assertEqual(out, "")
+        self.assertTrue(errors.startswith("fault read: Is a directory"), errors)
+        found = json.loads(self.bookie("--json", "import", self.logs, self.file, status=1)[1])
+        self.assertEqual(found["fault"], "read")
+
+    def test_more_than_a_cache(self):
+        """The cache has 16,777,216 bytes: it is flushed before the fourth of these entries, which
+        are as long as an entry may be."""
+        if kit.Programs.is_slow:
+            self.skipTest("the programs are not proved, and take a minute")
+        entries = [(1, it, bytes([it]) * 4_999_984) for it in range(4)]
+        self.file.write_bytes(log_files.records(entries))
+        self.assertEqual(self.take(), ("added 4 held 0\n", ""))
+        self.assertEqual(log_files.read(self.logs), {it[:2]: it[2] for it in entries})
+
+    def test_more_logs_than_a_script_holds(self):
+        self.logs.mkdir()
+        for log in range(1025):
+            (self.logs / log_files.name_of(log)).write_bytes(b"")
+        self.assertEqual(self.take(), ("added 4 held 0\n", ""))
+        self.assertEqual(log_files.read(self.logs), WANTED)
 
 
 class Refused(Case):

@@ -95,3 +95,35 @@ class Lists(kit.Case):
     def test_list_without_a_ledger_of_the_directory_is_refused(self):
         self.bookie("compact", *self.lists("ledgerID: 99\n"), self.logs, status=1)
         self.assertEqual(self.files(), self.before)
+
+    def test_line_that_is_no_ledger_is_refused(self):
+        """Each line is one in plain digits, of a list of live ledgers also as the stock shell writes
+        it; what is wrong is named with its line, and nothing is done."""
+        wrong = [
+            " ",
+            "1 ",
+            " 1",
+            "+1",
+            "01",
+            "-1",
+            "1,2",
+            "0x1",
+            str(1 << 63),
+            "1\t",
+            "ledgerID:",
+            "ledger 1",
+        ]
+        cases = [("--live-file", it) for it in wrong]
+        cases += [("--dead-file", it) for it in [*wrong, "ledgerID: 1"]]
+        file = self.room / "file"
+        for option, line in cases:
+            file.write_text(f"\n2\n{line}\n3\n")
+            out, errors = self.bookie("compact", "--dry-run", option, file, self.logs, status=1)
+            self.assertEqual(out, "", (option, line))
+            self.assertTrue(
+                errors.startswith(f"fault {file}: line 3: no number from 0 to "), errors
+            )
+        for option, line in (("--live-file", "ledgerID:1"), ("--live-file", "ledgerID:   1")):
+            file.write_text(f"2\n{line}\n3\n")
+            self.assertEqual(self.named(option, file), [4])
+        self.assertEqual(self.files(), self.before)

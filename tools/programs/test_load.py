@@ -1,7 +1,9 @@
 """The verdict of `load` over a disk that gives other bytes than were written."""
 
 import errno
+import os
 import re
+import subprocess
 
 import device
 import entry_logs
@@ -43,6 +45,27 @@ class Load(kit.Case):
         self.assertEqual(receipts, "receipts 60")
         found = list(map(int, latencies.split()[2:7:2]))
         self.assertEqual(found, sorted(found))
+
+    def test_remainder_of_the_adds(self):
+        """The first threads make one add more than the others."""
+        out, _ = self.bookie("load", "--folder", self.logs, "--threads", "4", "--adds", "63")
+        found, deleted, *others = self.figures(out)
+        self.assertEqual((found + deleted, others), (63, [0, 0, 0, 0]))
+        self.assertEqual(len(log_files.read(self.logs)), 63)
+
+    def test_ledgers_are_past_those_of_the_directory(self):
+        """The last ledger has no room for entries of a load behind it, the one before has."""
+        last = (1 << 62) - 1
+        self.publish(f"{last} 0 hello")
+        out, _ = self.bookie("load", "--folder", self.logs, *THREADS)
+        self.assertEqual((self.figures(out)[4:], out.splitlines()[-1]), ([1, 1], "good"))
+        found = {ledger for ledger, _ in log_files.read(self.logs)}
+        self.assertEqual((min(found), min(found - {last})), (last, last + 1))
+        self.publish(f"{last + 2} 0 hello")
+        before = self.files()
+        out, errors = self.bookie("load", "--folder", self.logs, *THREADS, status=1)
+        self.assertEqual((out, errors.splitlines()[0]), ("", "fault no ledger"))
+        self.assertEqual(self.files(), before)
 
     def deletions(self, thousands):
         """Runs a load of one thread, which deletes the last of its eight ledgers after each
@@ -90,6 +113,24 @@ class Load(kit.Case):
         self.publish("1 0 hello", "1 1 more", "2 0 two")
         out, _ = self.bookie("load", "--folder", self.logs, *THREADS)
         self.assertEqual((self.figures(out)[4:], out.splitlines()[-1]), ([3, 3], "good"))
+
+    def test_earlier_entry_that_is_lost_meanwhile_is_bad(self):
+        """The second entry of the log becomes another record of the first while the load runs."""
+        self.publish("1 0 hello", "1 1 more", "2 0 two")
+        words = [kit.Programs.shell, "load", "--folder", self.logs, "--threads", "1", "--seconds", "1"]
+        how = {"stdout": subprocess.PIPE, "stderr": subprocess.PIPE, "text": True}
+        with subprocess.Popen(list(map(str, words)), **how) as load:
+            self.addCleanup(load.kill)
+            self.assertTrue(kit.wait_until(lambda: self.log_names() != ["0.log"]))
+            with open(self.logs / "0.log", "r+b") as log:
+                log.seek(entry_logs.HEADER + log_files.FRONT + len(b"hello") + log_files.FRONT - 1)
+                self.assertEqual(log.read(1), b"\1")
+                log.seek(-1, os.SEEK_CUR)
+                log.write(b"\0")
+            out, _ = load.communicate(timeout=kit.LIMIT)
+        _, _, lost, unknown, *earlier = self.figures(out)
+        self.assertEqual((lost, unknown, earlier), (0, 0, [2, 3]))
+        self.assertEqual((load.returncode, out.splitlines()[-1]), (1, "bad"))
 
     @device.needs_compiler
     def test_log_that_is_not_read_any_more_is_named(self):

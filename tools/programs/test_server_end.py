@@ -68,6 +68,18 @@ class End(kit.Case):
             self.assertEqual(opened.process.wait(kit.LIMIT), 1)
             self.assertEqual(log_files.read(self.logs)[ledger, 0], b"hello")
 
+    def test_what_was_accepted_is_durable_if_replies_cannot_be_written(self):
+        """A reply that is longer than what the server keeps back, and one that is shorter."""
+        large = b"x" * 100_000
+        for ledger, options in enumerate(WAYS):
+            for entry, (name, fields) in enumerate((("read", {"entry": 0}), ("is_fenced", {}))):
+                opened = self.serve(*options)
+                self.assertEqual(opened.add(ledger, large, first=entry), ["accepted"])
+                opened.process.stdout.close()
+                opened.send(name, ledger=ledger, **fields)
+                self.assertEqual(opened.process.wait(kit.LIMIT), 1)
+                self.assertEqual(log_files.read(self.logs).get((ledger, entry)), large, (options, name))
+
     def test_no_request_is_carried_out_after_replies_cannot_be_written(self):
         for ledger, options in enumerate(WAYS):
             opened = self.serve(*options)
@@ -114,6 +126,21 @@ class Failing(kit.Case):
         self.assertRegex(opened.errors_now(), r"(?m)^note compaction: [1-9]\d* steps failed$")
         self.close(self.serve("--compact", "20,80"))
 
+    @device.needs_compiler
+    def test_each_failed_step_is_counted(self):
+        """A log without a live entry cannot be removed, in the round of the opening and in that of a deletion."""
+        self.publish("1 0 hello")
+        self.publish("2 0 hello", "3 0 " + "hello" * 100)
+        self.assertEqual(self.script("delete 1"), ["dropped 1"])
+        fault = device.failing(self.logs / "0.log", "remove", 1, errno.EIO, stays=True)
+        opened = self.serve("--compact", "20,80", "--no-hints", more=fault)
+        for number in (1, 2):
+            self.assertTrue(kit.wait_until(lambda: opened.call("stats").failures == number), number)
+            self.assertEqual(opened.call("delete", ledger=2).name, ("dropped", "already_deleted")[number - 1])
+        self.close(opened)
+        self.assertEqual(opened.errors_now(), "note compaction: 2 steps failed\n")
+        self.assertEqual(self.log_names(), ["0.log", "1.log"])
+
 
 class Leases(kit.Case):
     def test_no_lease_is_left(self):
@@ -133,15 +160,26 @@ class Leases(kit.Case):
 class Load(kit.Case):
     """The background goes on while requests come without a pause."""
 
-    def compacted_meanwhile(self, request, *options):
-        """Sends a deletion that leaves a log nearly unused, then many requests, ahead of all replies. Returns what the store
-        has at their end, as the last of these requests says."""
+    def assert_compacted_meanwhile(self, request, *options, **more):
+        """Asserts that a log nearly unused is compacted while many such requests come: 10,000 of
+        them, or four times as many, which a quick server takes some time for."""
+        wanted = (1, log_files.FRONT + len(b"hello"))
+        for batches in (40, 160):
+            self.logs = self.room / f"logs{batches}"
+            found = self.compacted_meanwhile(batches, request, *options, **more)
+            if found == wanted:
+                break
+        self.assertEqual(found, wanted)
+
+    def compacted_meanwhile(self, batches, request, *options, **more):
+        """Sends a deletion that leaves a log nearly unused, then as many times 256 requests, ahead
+        of all replies. Returns what the store has at their end: its logs and their bytes."""
         opened = self.serve("--compact", "20,80", *options)
         opened.add(1, b"hello")
         opened.add(2, *[b"much more than that"] * 9)
         self.assertEqual(opened.call("seal").log, 0)
         made = [opened.frame("delete", ledger=2)]
-        made += [opened.frame(request, ledger=1, entry=0) for _ in range(256 * 40)]
+        made += [opened.frame(request, ledger=1, entry=0, **more) for _ in range(256 * batches)]
         made += [opened.frame("stats")]
         # The server leaves requests unread while nobody reads its replies.
         writing = threading.Thread(target=opened.write, args=(b"".join(data for data, _ in made),))
@@ -155,7 +193,10 @@ class Load(kit.Case):
         return found[-1].logs, found[-1].bytes
 
     def test_compaction_while_requests_wait(self):
-        self.assertEqual(self.compacted_meanwhile("holds"), (1, log_files.FRONT + len(b"hello")))
+        self.assert_compacted_meanwhile("holds")
 
     def test_compaction_while_reads_are_shared(self):
-        self.assertEqual(self.compacted_meanwhile("read", "--readers", "2"), (1, log_files.FRONT + len(b"hello")))
+        self.assert_compacted_meanwhile("read", "--readers", "2")
+
+    def test_compaction_while_adds_come_to_readers(self):
+        self.assert_compacted_meanwhile("add", "--readers", "2", content=b"hello")

@@ -140,6 +140,17 @@ class Hints(kit.Case):
             self.assertTrue(kit.wait_until(lambda: (self.logs / f"{entry}.hint").exists()), f"{entry}.hint")
         self.close(opened)
 
+    def test_hint_of_a_log_that_was_flushed_before(self):
+        """An open log gets none, and one when nothing but its seal has changed."""
+        opened = self.serve()
+        self.assertEqual(opened.add(1, b"hello"), ["accepted"])
+        self.assertEqual(opened.call("flush").entries, 1)
+        self.assertFalse(kit.wait_until(self.hints, kit.SILENCE / 4))
+        self.assertEqual(opened.call("seal").log, 0)
+        self.assertTrue(kit.wait_until(self.hints, kit.LIMIT / 4))
+        self.assertEqual(self.hints(), ["0.hint"])
+        self.close(opened)
+
     def test_hint_of_a_log_that_is_sealed_last(self):
         opened = self.serve()
         found = opened.together(("add", {"ledger": 1, "entry": 0, "content": b"hello"}), "seal", "close")

@@ -56,18 +56,24 @@ fn writes_needed(alloc: Global) -> usize {
 }
 
 /// Returns the status of the script on a writer that takes N writes, or 2 if the writer got
-/// anything but a prefix of the output, or not all of it with status 0.
+/// anything but a prefix of the output, or not all of it with status 0, or the error stream got
+/// anything.
 fn status_with(alloc: Global, write: usize, flush: bool) -> u8 {
-    let (status, taken) = run_on(alloc, write, flush);
+    let (status, taken, told) = run_on(alloc, write, flush);
     let is_right = match status {
         0 => taken.as_slice() == OUTPUT,
         _ => OUTPUT.starts_with(taken.as_slice()),
     };
-    if is_right { status } else { 2 }
+    if is_right && told.is_empty() {
+        status
+    } else {
+        2
+    }
 }
 
-/// Runs the script on a writer that takes N writes. Returns the status and what was written.
-fn run_on(alloc: Global, write: usize, flush: bool) -> (u8, Vec<u8>) {
+/// Runs the script on a writer that takes N writes. Returns the status, what was written, and what
+/// the error stream got.
+fn run_on(alloc: Global, write: usize, flush: bool) -> (u8, Vec<u8>, Vec<u8>) {
     let mut errors = Vec::new(alloc);
     let mut writer = FailsAt {
         write,
@@ -76,5 +82,5 @@ fn run_on(alloc: Global, write: usize, flush: bool) -> (u8, Vec<u8>) {
     };
     let mut script = "add 1 0 a\npublish\n".as_bytes();
     let status = run_script(alloc, DEFAULTS, &[], &mut script, &mut writer, &mut errors);
-    (status, writer.taken)
+    (status, writer.taken, errors)
 }
