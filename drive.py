@@ -27,13 +27,26 @@ import switch  # noqa: E402
 
 PLANTS, RESULTS = HERE / "plants", HERE / "results"
 # Programs, the word with which a compile runs each, and the programs that tests in Python call.
-PROGRAMS = {"bk_shell": ["--version"], "bk_serve": ["--version"], "bk_simulate": ["--help"], "bk_scenarios": ["data/found_log.run"]}
+PROGRAMS = {"bk_serve": ["--version"], "bk_simulate": ["--help"], "bk_shell": ["--version"], "bk_scenarios": ["data/found_log.run"]}
 GROUPS = {
     "tests1": ["bk_drive_tests", "bk_recorded_tests", "bk_simulate_tests", "bk_serve_core_tests", "bk_bookie_tests", "bk_hint_disk_tests"],
     "tests2": ["bk_script_tests", "bk_import_tests", "bk_survey_tests", "bk_report_tests", "bk_hint_folder_tests"],
 }
 ALONE = ["bk_load_tests", "bk_commands_tests", "bk_inspect_tests"]
 SECONDS = 240
+# What is likely to see a plant of a crate, and is run first.
+LIKELY = {
+    "bk_load": ["test_load", "bk_load_tests"],
+    "bk_offline_gc": ["test_commands_writing", "test_commands_calls"],
+    "bk_folder": ["test_commands_calls", "test_commands_writing", "test_failed_steps", "test_hints"],
+    "bk_recorded": ["test_failed_steps", "test_commands_calls", "test_deletions"],
+    "bk_drive": ["test_script_steps"],
+    "bk_collect": ["test_script_steps"],
+    "bk_compact": ["test_script_steps", "test_commands_writing"],
+    "bk_bookie": ["bk_bookie_tests", "test_load"],
+    "bk_serve_core": ["test_server_frames", "test_frames", "test_compaction", "test_server_opening"],
+    "bk_serve_dispatch": ["test_server_frames", "test_server_end"],
+}
 
 
 def plants_of(names):
@@ -158,10 +171,13 @@ def make(clone, room, crates):
         if crates_below(tree, [it]) & set(crates):
             wanted.append((it, tree / "crates" / it, ["--test"]))
     bad = []
+    wanted.sort(key=lambda it: it[0] in ("bk_shell", "bk_serve", *ALONE))
     for name, folder, words in wanted:
         began = time.time()
-        with open("/build/compile.lock", "w") as lock:
-            fcntl.flock(lock, fcntl.LOCK_EX)
+        is_big = name in ("bk_shell", "bk_serve", *ALONE)
+        with open("/build/compile.lock" if is_big else "/dev/null", "w") as lock:
+            if is_big:
+                fcntl.flock(lock, fcntl.LOCK_EX)
             said = compiled(folder, words, room / "programs" / name, tree)
         print(f"{name}: {'compiled' if said is None else 'FAILED'} {time.time() - began:.0f} s", flush=True)
         if said is not None:
@@ -306,7 +322,8 @@ def test(room, names, is_again):
             continue
         reach = [(it["seconds"], key) for key, it in known["tests"].items() if it["passed"] and plant.full in it["reached"]]
         seen, ran = None, 0.0
-        for _, key in sorted(reach):
+        likely = LIKELY.get(plant.crate, [])
+        for _, key in sorted(reach, key=lambda it: (not any(word in it[1] for word in likely), it)):
             if key in tried and not is_again:
                 continue
             limit = max(90, 6 * known["tests"][key]["seconds"])
@@ -324,7 +341,7 @@ def test(room, names, is_again):
             print(f"{plant.full}: UNSEEN by {len(reach)} tests that reach it ({ran:.0f} s)", flush=True)
 
 
-def clause(clone, room, names):
+def clause(clone, room, names, is_unseen):
     """Tries plants by the rule of the gate, over the libraries that are proved."""
     sys.path.insert(0, str(clone / ".ci"))
     import runs
@@ -336,6 +353,7 @@ def clause(clone, room, names):
         below = tried.dependences(clone)[crate]
         lacking = [it for it in below if it not in built]
         own = [it for it in plants_of([crate]) if "clause" not in result_of(it)]
+        own = [it for it in own if not is_unseen or result_of(it).get("tests") != "seen"]
         if lacking or not own:
             print(f"{crate}: {'not proved below: ' + ' '.join(lacking) if lacking else 'nothing left'}", flush=True)
             continue
@@ -363,6 +381,7 @@ def main(words):
     parser.add_argument("--clone", default="/build/p1")
     parser.add_argument("--room", default=str(HERE / "room1"))
     parser.add_argument("--again", action="store_true")
+    parser.add_argument("--unseen", action="store_true", help="clause: only plants that no test has seen")
     parser.add_argument("command")
     parser.add_argument("names", nargs="*")
     asked = parser.parse_args(words)
@@ -376,7 +395,7 @@ def main(words):
     if asked.command == "test":
         return test(room, asked.names, asked.again)
     if asked.command == "clause":
-        return clause(clone, room, asked.names)
+        return clause(clone, room, asked.names, asked.unseen)
     sys.exit(__doc__)
 
 
