@@ -38,7 +38,7 @@ SECONDS = 240
 LIKELY = {
     "bk_load": ["test_load", "bk_load_tests"],
     "bk_offline_gc": ["test_commands_writing", "test_commands_calls"],
-    "bk_folder": ["test_commands_calls", "test_commands_writing", "test_failed_steps", "test_hints"],
+    "bk_folder": ["test_commands_reading", "test_commands_calls", "test_commands_writing", "test_failed_steps", "test_hints"],
     "bk_recorded": ["test_failed_steps", "test_commands_calls", "test_deletions"],
     "bk_drive": ["test_script_steps"],
     "bk_collect": ["test_script_steps"],
