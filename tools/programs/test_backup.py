@@ -4,12 +4,15 @@ import os
 import shutil
 import subprocess
 import threading
+import time
 
 from kit import LIMIT, TOP, Case, Programs, compact_words, wait_until
 
-# Copies that are made beside one load, and the bytes of a log of it. Much is written between two
-# steps of a copy, since `cp` waits before it begins.
-COPIES, LOG = 3, 40_000
+# Copies that are made beside one load, how often one is begun at most, and the bytes of a log of
+# the load. Much is written between two steps of a copy, since `cp` waits before it begins.
+COPIES, TRIES, LOG = 3, 12, 40_000
+# Seconds between two ledgers of the load: a quick server makes no more than a slow one.
+PAUSE = 0.02
 # Entries of a ledger, without the one that is added to a fenced one.
 COUNT = 12
 
@@ -38,6 +41,7 @@ class Load(threading.Thread):
             while self.gate.wait() and self.going:
                 ledger += 1
                 self.round(ledger)
+                time.sleep(PAUSE)
         except BaseException as fault:  # noqa: B902
             self.fault = fault
 
@@ -118,15 +122,17 @@ class Beside(Case):
         load = Load(self.serve("--log-limit", LOG, *compact_words(200, 800)))
         load.start()
         made, self.path = 0, path_with(self.room, "cp", "sleep 1")
-        for number in range(COPIES):
+        for number in range(TRIES):
             load.gate.set()
             count = 300 * (number + 1)
             is_far = wait_until(lambda: len(load.published) >= count or load.fault, 10 * LIMIT)
             self.assertTrue(is_far)
             made += self.copies_once(load, self.room / f"copy{number}")
+            if made == COPIES:
+                break
         load.end()
         self.assertIsNone(load.fault)
-        self.assertGreaterEqual(made, COPIES - 1)
+        self.assertEqual(made, COPIES)
         self.assertEqual([it for it in os.listdir(self.logs) if it.startswith("backup.")], [])
 
     def copies_once(self, load, copy):
